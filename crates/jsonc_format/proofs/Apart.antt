@@ -1,14 +1,13 @@
 -- Pieces of a document end before what is written after them.
-use Rattle.std.proofs.Common.{ℕ, zero, suc, ◌≡◌, ◌∙◌, sym, ap, refl, Bool, true, false, not, ◌&&◌, ◌||◌, ◌==◌, nat_lt, List, [], ◌∷◌, ◌++◌, IsTrue, arith, Option, Some, None, if◌then◌else◌, ◌⊎◌, inl, inr}
+use Rattle.std.proofs.Common.{ℕ, zero, suc, ◌≡◌, ◌∙◌, sym, refl, Bool, true, false, not, ◌&&◌, ◌||◌, ◌==◌, nat_lt, List, [], ◌∷◌, ◌++◌, IsTrue, arith, if◌then◌else◌, ◌⊎◌, inl, inr}
 use Rattle.jsonc_text.specs.Options.{Options}
-use Rattle.jsonc_text.specs.Text.{next, no, starts, Many, is_line_end}
+use Rattle.jsonc_text.specs.Text.{next, no, starts, is_line_end}
 use Rattle.jsonc_text.specs.Gaps.{is_blank, is_in_line}
 use Rattle.jsonc_text.specs.Places.{is_comment}
-use Rattle.jsonc_text.specs.Lexemes.{LexemeKind, Scanned, lexeme, line_comment, block_comment, punctuation, is_punctuation, IsScanned, CanEndBefore}
+use Rattle.jsonc_text.specs.Lexemes.{LexemeKind, Scanned, lexeme, line_comment, block_comment, IsScanned, CanEndBefore}
 use Rattle.jsonc_text.specs.Words.{Keyword, EndsWord}
 use Rattle.jsonc_text.proofs.LexemesAlone.{scanned_before}
-use Rattle.jsonc_text.proofs.Basics.{and_both}
-use Rattle.jsonc_format.specs.Format.{Style, Frame, State, Piece, mark, opens, closes, separates, is_line_comment, leads, lines, in_line, on_one_line, is_flat, shift, indent, new_line, gap_in_line, gap_on_lines, gap_in, without_first, past, after, written, layout_after, left_open, is_last}
+use Rattle.jsonc_format.specs.Format.{Style, Frame, State, Piece, mark, opens, closes, separates, leads, lines, in_line, on_one_line, is_flat, shift, indent, new_line, gap_in_line, gap_on_lines, gap_in, without_first, after, written, layout_after, left_open, is_last}
 use Rattle.jsonc_format.specs.Styles.{IsLineEnd, line_feed, carriage_return, both, IsProper}
 use Rattle.jsonc_format.specs.Laws.{Apart, closes_first}
 use Rattle.jsonc_format.proofs.DocumentPieces.{names_next}

@@ -1,5 +1,5 @@
 -- What is kept of open containers, one less or one more.
-use Rattle.std.proofs.Common.{ℕ, suc, ◌≡◌, ◌∙◌, ◌+◌, ◌-◌, ◌<◌, ◌≤◌, sym, ap, subst, refl, Bool, not, ◌||◌, List, [], ◌∷◌, ◌++◌, length, take, drop, set, get_or, map, reverse, Option, Some, None, append_assoc, arith}
+use Rattle.std.proofs.Common.{ℕ, ◌≡◌, ◌∙◌, ◌+◌, ◌-◌, ◌<◌, ◌≤◌, sym, ap, subst, refl, Bool, not, ◌||◌, List, [], ◌∷◌, ◌++◌, length, take, drop, set, get_or, map, reverse, Option, Some, None, append_assoc, arith}
 use Rattle.std.specs.Option.{option_to_list}
 use Rattle.std.proofs.lemmas.List.{take-append-drop, take-set, drop-set, take_more, reverse-append}
 use Rattle.jsonc_format.specs.declared.plan.Pending.{Pending}

@@ -1,8 +1,8 @@
 -- A document has pieces.
-use Rattle.std.proofs.Common.{ℕ, ◌≡◌, ◌∙◌, sym, ap, refl, List, [], ◌∷◌, ◌++◌, IsTrue, Bool, true, false, ◌||◌, ◌==◌, Option, Some, None, inl, inr}
+use Rattle.std.proofs.Common.{ℕ, ◌≡◌, ap, refl, List, [], ◌∷◌, ◌++◌, IsTrue, Bool, true, false, ◌||◌, ◌==◌, Option, Some, None, inl, inr}
 use Rattle.jsonc_text.specs.Options.{Options}
-use Rattle.jsonc_text.specs.Text.{Many, stop, step}
-use Rattle.jsonc_text.specs.Gaps.{is_blank, is_in_line, Gap, IsComment, LineComment, line, BlockComment, block, UpToBlockEnd, here, later}
+use Rattle.jsonc_text.specs.Text.{stop, step}
+use Rattle.jsonc_text.specs.Gaps.{is_blank, is_in_line, Gap, IsComment, line, block, UpToBlockEnd, here, later}
 use Rattle.jsonc_text.specs.Places.{is_comment}
 use Rattle.jsonc_text.specs.Lexemes.{LexemeKind, Scanned, lexeme, line_comment, block_comment, is_punctuation, IsScanned}
 use Rattle.jsonc_text.specs.Grammar.{literal_value, IsValue, AreElements, AreProperties, IsProperty, IsName, IsDocument, Separates, Closes}

@@ -1,23 +1,22 @@
 -- A document that is formatted stays one.
-use Rattle.std.proofs.Common.{ℕ, zero, suc, ◌≡◌, ◌∙◌, sym, ap, subst, refl, Bool, true, false, List, [], ◌∷◌, ◌++◌, IsTrue, Option, inl, inr}
+use Rattle.std.proofs.Common.{ℕ, ◌≡◌, ◌∙◌, sym, ap, subst, refl, Bool, List, [], ◌∷◌, Option}
 use Rattle.jsonc_text.specs.Options.{Options}
 use Rattle.jsonc_text.specs.Grammar.{IsDocument}
 use Rattle.jsonc_text.specs.Plain.{Plain}
 use Rattle.jsonc_text.specs.Marks.{MarksTo}
 use Rattle.jsonc_format.specs.declared.style.Style as code
-use Rattle.jsonc_format.specs.Format.{Style, State, Piece, IsPieces, no_more, piece, start, after, layout, IsFormatted}
+use Rattle.jsonc_format.specs.Format.{Style, State, Piece, IsPieces, start, after, layout, IsFormatted}
 use Rattle.jsonc_format.specs.Styles.{IsProper, Wish, or_else, line_end_of, level_of, IsFormattedAs}
 use Rattle.jsonc_format.specs.Wishes.{wish_of}
-use Rattle.jsonc_format.specs.Laws.{ended, content, contents, respaced_after, respaced, marks_of, Apart, HasContents, KeepsDocument, HasStyle}
-use Rattle.jsonc_format.proofs.Apart.{Held, Sound, apart}
+use Rattle.jsonc_format.specs.Laws.{content, contents, respaced_after, respaced, marks_of, Apart, KeepsDocument, HasStyle}
+use Rattle.jsonc_format.proofs.Apart.{apart}
 use Rattle.jsonc_format.proofs.DocumentPieces.{document_pieces}
 use Rattle.jsonc_format.proofs.Endings.{end_literals}
 use Rattle.jsonc_format.proofs.Idempotent.{layout_alike}
 use Rattle.jsonc_format.proofs.PieceMarks.{pieces_marks}
 use Rattle.jsonc_format.proofs.Proper.{style_proper}
 use Rattle.jsonc_format.proofs.Same.{same_document}
-use Rattle.jsonc_format.proofs.Sounds.{trim, trimmed_pieces, sound_pieces}
-use Rattle.jsonc_format.proofs.Trim.{kept_again}
+use Rattle.jsonc_format.proofs.Sounds.{trimmed_pieces, sound_pieces}
 use Rattle.jsonc_format.proofs.Trims.{pieces_tidy, layout_trimmed, marks_trimmed, contents_trimmed}
 use Rattle.jsonc_format.proofs.Unique.{pieces_unique, pieces_and_tails}
 use Rattle.jsonc_format.proofs.Written.{pieces_of_layout, tail_of, marks_respaced}

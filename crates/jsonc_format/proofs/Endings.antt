@@ -1,9 +1,9 @@
 -- Numbers and keywords end before a space, the end of a line, a comma, a colon and a closing bracket.
-use Rattle.std.proofs.Common.{ℕ, ◌≡◌, sym, subst, refl, Bool, true, false, not, ◌||◌, ◌==◌, nat_lt, List, [], ◌∷◌, ◌++◌, IsTrue, codes}
-use Rattle.jsonc_text.specs.Options.{Options, all_on}
-use Rattle.jsonc_text.specs.Text.{next, no, starts, Many, AllOf, all_of, is_digit, is_hex_digit}
+use Rattle.std.proofs.Common.{ℕ, ◌≡◌, sym, subst, refl, Bool, true, false, not, ◌||◌, ◌==◌, nat_lt, List, [], ◌∷◌, ◌++◌, IsTrue}
+use Rattle.jsonc_text.specs.Options.{all_on}
+use Rattle.jsonc_text.specs.Text.{next, no, AllOf, all_of, is_digit, is_hex_digit}
 use Rattle.jsonc_text.specs.Letters.{is_wide_letter}
-use Rattle.jsonc_text.specs.Words.{Keyword, goes_on}
+use Rattle.jsonc_text.specs.Words.{goes_on}
 use Rattle.jsonc_text.specs.Numbers.{Sign, Whole, Fraction, Exponent, Unsigned, MayFollow, EndsName, is_x, is_e, is_point}
 use Rattle.jsonc_text.proofs.Basics.{test_eq}
 use Rattle.jsonc_text.proofs.NumberFrames.{number_whole}

@@ -1,5 +1,5 @@
 -- What a text tells of its style, as far as it is read.
-use Rattle.std.proofs.Common.{ℕ, suc, ◌≡◌, ◌∙◌, ◌+◌, ◌-◌, ◌<◌, ◌≤◌, sym, ap, refl, Bool, true, false, not, ◌&&◌, nat_lt, List, [], ◌∷◌, ◌++◌, length, IsUtf8, chars, slice_range, arith, Option, None, Some, option_map, if◌then◌else◌, ◌⊎◌, inl, inr}
+use Rattle.std.proofs.Common.{ℕ, ◌≡◌, ◌∙◌, ◌<◌, ◌≤◌, sym, ap, refl, Bool, true, false, List, [], ◌∷◌, IsUtf8, chars, slice_range, arith, Option, None, Some, if◌then◌else◌}
 use Rattle.jsonc_text.specs.Options.{Options}
 use Rattle.jsonc_text.specs.Text.{rest}
 use Rattle.jsonc_text.specs.Lexemes.{Scanned}
@@ -8,10 +8,10 @@ use Rattle.jsonc_scan.specs.Scanner.{start_of, end_of, PassesBlanks, IsThere}
 use Rattle.jsonc_format.specs.declared.class.Class.{Class}
 use Rattle.jsonc_format.specs.Classes.{IsOf, opens_by, closes_by}
 use Rattle.jsonc_format.specs.Format.{Piece, IsPieces, opens, closes}
-use Rattle.jsonc_format.specs.Pieces.{IsReadAt, piece_at}
-use Rattle.jsonc_format.specs.Styles.{or_else, first_end, line_end_of, last_line, is_empty, tells_level, depth_after, level_of}
+use Rattle.jsonc_format.specs.Pieces.{IsReadAt}
+use Rattle.jsonc_format.specs.Styles.{first_end, line_end_of, last_line, tells_level, depth_after, level_of}
 use Rattle.jsonc_format.specs.Wishes.{IsLineEndOf, IsLevelOf}
-use Rattle.jsonc_format.proofs.Steps.{Front, read_front}
+use Rattle.jsonc_format.proofs.Steps.{read_front}
 use Rattle.jsonc_format.proofs.Reading.{IsAt, none_left, read_to, gap_to_end}
 
 -- the pieces that are left tell the same

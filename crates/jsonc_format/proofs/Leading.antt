@@ -10,7 +10,7 @@ use Rattle.jsonc_format.specs.declared.class.Class.{Class}
 use Rattle.jsonc_format.specs.declared.class.Class.TheVariants as class
 use Rattle.jsonc_format.specs.Classes.{IsOf, comments_by, is_line}
 use Rattle.jsonc_format.specs.Format.{Piece, IsPieces, is_line_comment, in_line, leads}
-use Rattle.jsonc_format.specs.Pieces.{HasNoPieces, IsReadAt, LeadsOn}
+use Rattle.jsonc_format.specs.Pieces.{LeadsOn}
 use Rattle.jsonc_format.proofs.Steps.{read_front}
 use Rattle.jsonc_format.proofs.Reading.{IsPlaced, placed_read, placed_none}
 

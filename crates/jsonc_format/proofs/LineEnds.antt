@@ -1,9 +1,8 @@
 -- Where lines end in a text, at its places.
-use Rattle.std.proofs.Common.{ℕ, zero, suc, ◌≡◌, ◌∙◌, ◌+◌, ◌<◌, ◌≤◌, sym, ap, refl, subst, Bool, true, false, not, ◌&&◌, ◌||◌, ◌==◌, nat_lt, List, [], ◌∷◌, ◌++◌, length, IsTrue, IsUtf8, IsCharBoundary, chars, arith, if◌then◌else◌, ◌≢◌, Option, Some, None}
+use Rattle.std.proofs.Common.{ℕ, zero, suc, ◌≡◌, ◌∙◌, ◌+◌, ◌<◌, ◌≤◌, sym, ap, refl, subst, Bool, true, false, not, ◌&&◌, ◌||◌, ◌==◌, nat_lt, List, [], ◌∷◌, length, IsTrue, IsUtf8, IsCharBoundary, chars, arith, if◌then◌else◌, ◌≢◌, Option, Some, None}
 use Rattle.jsonc_text.specs.Text.{rest, next, no, starts, Many, stop, step, is_line_end, byte_length}
 use Rattle.jsonc_text.specs.Chars.{Steps}
-use Rattle.jsonc_text.specs.Places.{ends_line}
-use Rattle.jsonc_text.specs.string.Between.{Reaches, LacksAt, is_neither}
+use Rattle.jsonc_text.specs.string.Between.{LacksAt, is_neither}
 use Rattle.jsonc_text.proofs.Cuts.{end_place, within_text, rest_past, byte_length-one}
 use Rattle.jsonc_text.proofs.Basics.{test_eq}
 use Rattle.std.specs.Char.{len_utf8}
@@ -11,7 +10,6 @@ use Rattle.jsonc_text.proofs.CharacterSteps.{rest_end}
 use Rattle.jsonc_format.specs.Format.{in_line, lines}
 use Rattle.jsonc_format.specs.Styles.{first_end, last_line}
 use Rattle.jsonc_format.specs.Gaps.{IsPastLine}
-use Rattle.jsonc_format.proofs.Again.{none_in_line}
 
 abbrev pub stays : ℕ → Bool
 stays = is_neither 0x0A 0x0D

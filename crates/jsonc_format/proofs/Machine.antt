@@ -1,11 +1,9 @@
 -- How it is found out which containers are on one line.
-use Rattle.std.proofs.Common.{ℕ, zero, suc, ◌≡◌, ◌∙◌, ◌<◌, ◌≤◌, ◌+◌, sym, ap, refl, subst, Bool, true, false, not, ◌&&◌, ◌||◌, List, [], ◌∷◌, ◌++◌, take, drop, length, arith, append_assoc, if◌then◌else◌, add-one, length-append}
+use Rattle.std.proofs.Common.{ℕ, suc, ◌≡◌, ◌∙◌, ◌<◌, ◌+◌, sym, ap, refl, subst, Bool, true, false, not, ◌&&◌, ◌||◌, List, [], ◌∷◌, ◌++◌, take, drop, length, arith, append_assoc, if◌then◌else◌, length-append}
 use Rattle.std.proofs.lemmas.List.{take-append-le, drop-append-le, take-append-drop}
 use Rattle.std.proofs.Math.Seq.{take-append_seam, drop-append_seam}
 use Rattle.std.proofs.Math.ListN.{drop_of_length-le}
-use Rattle.jsonc_format.specs.declared.class.Class.{Class}
 use Rattle.jsonc_format.specs.declared.plan.Pending.{Pending}
-use Rattle.jsonc_format.specs.Classes.{IsOf, opens_by, closes_by}
 use Rattle.jsonc_format.specs.Flags.{flats}
 use Rattle.jsonc_format.specs.Format.{Piece, opens, closes, in_line, is_last, left_open, on_one_line, is_flat}
 use Rattle.jsonc_format.specs.Plans.{marked, AreOrdered, IsFresh, closed_flat, closed_open}

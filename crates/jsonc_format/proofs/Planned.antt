@@ -12,11 +12,11 @@ use Rattle.jsonc_format.specs.declared.plan.Pending.{Pending}
 use Rattle.jsonc_format.specs.declared.plan.Plan.{Plan}
 use Rattle.jsonc_format.specs.Classes.{IsOf, opens_by, closes_by}
 use Rattle.jsonc_format.specs.Flags.{flats}
-use Rattle.jsonc_format.specs.Format.{Piece, IsPieces, opens, closes, in_line}
+use Rattle.jsonc_format.specs.Format.{Piece, IsPieces, in_line}
 use Rattle.jsonc_format.specs.Pieces.{IsReadAt, piece_at, AreFlagsOf}
 use Rattle.jsonc_format.specs.Plans.{marked, pending, closed_flat, closed_open, AreOrdered, IsFresh, Passes}
-use Rattle.jsonc_format.proofs.Machine.{IsKnown, ends_in_line, passed_other, passed_open, passed_close, ordered_open, ordered_close, ordered_other, fresh_open, known_end}
-use Rattle.jsonc_format.proofs.Steps.{Front, read_front}
+use Rattle.jsonc_format.proofs.Machine.{IsKnown, ends_in_line, passed_other, passed_open, passed_close, ordered_open, ordered_close, ordered_other, known_end}
+use Rattle.jsonc_format.proofs.Steps.{read_front}
 use Rattle.jsonc_format.proofs.Reading.{IsAt, none_left, moved, moved_three}
 
 in_line_joined : (s t : List ℕ) → in_line (s ++ t) ≡ in_line s && in_line t

@@ -1,5 +1,5 @@
 -- A text as far as it is written.
-use Rattle.std.proofs.Common.{ℕ, ◌≡◌, ◌∙◌, sym, ap, refl, subst, Bool, true, false, List, [], ◌∷◌, ◌++◌, IsUtf8, chars, append_assoc, None}
+use Rattle.std.proofs.Common.{ℕ, ◌≡◌, ◌∙◌, sym, ap, refl, subst, Bool, true, false, List, [], ◌++◌, IsUtf8, chars, append_assoc, None}
 use Rattle.jsonc_text.specs.Options.{Options}
 use Rattle.jsonc_text.specs.Text.{rest}
 use Rattle.jsonc_text.specs.Lexemes.{Scanned}
@@ -13,7 +13,7 @@ use Rattle.jsonc_format.specs.Pieces.{IsReadAt, piece_at}
 use Rattle.jsonc_format.specs.Printing.{IsPrinted, PutsRead, last_line_end}
 use Rattle.jsonc_format.specs.Tracks.{track_state, gap_here, layout_by}
 use Rattle.jsonc_format.proofs.States.{layout_step, layout_begun}
-use Rattle.jsonc_format.proofs.Steps.{Front, read_front}
+use Rattle.jsonc_format.proofs.Steps.{read_front}
 use Rattle.jsonc_format.proofs.Reading.{IsAt, none_left}
 
 -- the pieces that are left, before which this is written

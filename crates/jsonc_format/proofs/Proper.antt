@@ -1,16 +1,15 @@
 -- What a text tells of its style, and what may be asked of one, are ends of lines and blanks.
-use Rattle.std.proofs.Common.{ℕ, zero, suc, ◌≡◌, ◌∙◌, sym, ap, subst, refl, Bool, true, false, not, ◌&&◌, ◌||◌, ◌==◌, List, [], ◌∷◌, ◌++◌, IsTrue, Option, Some, None, option_map, take, codes, if◌then◌else◌}
+use Rattle.std.proofs.Common.{ℕ, ◌≡◌, sym, subst, refl, Bool, true, false, ◌&&◌, ◌==◌, List, [], ◌∷◌, IsTrue, Option, Some, None, option_map, take, codes, if◌then◌else◌}
 use Rattle.jsonc_text.specs.Options.{Options}
 use Rattle.jsonc_text.specs.Text.{next, starts, Many, stop, step, is_line_end}
 use Rattle.jsonc_text.specs.Gaps.{is_blank, is_in_line}
-use Rattle.jsonc_text.proofs.Basics.{and_both}
 use Rattle.jsonc_format.specs.declared.style.LineEnd.{LineEnd}
 use Rattle.jsonc_format.specs.declared.style.LineEnd.TheVariants as end
 use Rattle.jsonc_format.specs.declared.style.Level.{Level}
 use Rattle.jsonc_format.specs.declared.style.Level.TheVariants as level
 use Rattle.jsonc_format.specs.declared.style.Style as code
 use Rattle.jsonc_format.specs.Format.{Style, Piece, IsPieces, no_more, piece, in_line, opens, closes}
-use Rattle.jsonc_format.specs.Styles.{IsLineEnd, line_feed, carriage_return, both, IsProper, Wish, or_else, first_end, line_end_of, last_line, is_empty, tells_level, depth_after, level_of, IsStyleFor}
+use Rattle.jsonc_format.specs.Styles.{IsLineEnd, line_feed, carriage_return, both, IsProper, or_else, first_end, line_end_of, last_line, tells_level, depth_after, level_of, IsStyleFor}
 use Rattle.jsonc_format.specs.Wishes.{line_end_text, level_text, wish_of}
 use Rattle.jsonc_format.proofs.Sounds.{many_take}
 use Rattle.jsonc_format.proofs.Trims.{run_in_line}

@@ -1,6 +1,5 @@
 -- Where a scanner is in a text.
-use Rattle.std.proofs.Common.{ℕ, ◌≡◌, ◌∙◌, ◌≤◌, ◌<◌, ◌-◌, sym, ap, refl, subst, List, [], ◌∷◌, ◌++◌, IsTrue, IsUtf8, IsCharBoundary, chars, slice_range, append-nil, length, arith, Option, Some, None, Result, Ok, Err, IfErr, IfOk, inl, inr}
-use Rattle.std.proofs.lemmas.Str.{IsCharBoundary-start}
+use Rattle.std.proofs.Common.{ℕ, ◌≡◌, ◌∙◌, ◌≤◌, ◌<◌, ◌-◌, sym, ap, refl, subst, List, [], ◌++◌, IsUtf8, IsCharBoundary, chars, slice_range, append-nil, length, arith, Some, None, inl, inr}
 use Rattle.jsonc_text.specs.declared.errors.ParseError.{ParseError}
 use Rattle.jsonc_text.specs.Options.{Options}
 use Rattle.jsonc_text.specs.Text.{rest, Many, Spans}
@@ -11,8 +10,8 @@ use Rattle.jsonc_text.proofs.Cuts.{end_place, chars_between}
 use Rattle.jsonc_scan.specs.declared.scanner.Scanner.{Scanner}
 use Rattle.jsonc_scan.specs.Scanner.{text_of, options_of, start_of, end_of, left, PassesBlanks, IsThere, GoesOn, NothingStands}
 use Rattle.jsonc_format.specs.Format.{Piece, IsPieces}
-use Rattle.jsonc_format.specs.Pieces.{HasNoPieces, IsReadAt, IsPiecesError, piece_at}
-use Rattle.jsonc_format.proofs.Steps.{Front, read_front, none_here, no_front}
+use Rattle.jsonc_format.specs.Pieces.{HasNoPieces, IsReadAt, IsPiecesError}
+use Rattle.jsonc_format.proofs.Steps.{read_front, none_here, no_front}
 
 pub moved : {A B : Type 0} (P : A → B → Type 0) {a x : A} {b y : B} → a ≡ x → b ≡ y → P a b → P x y
 moved P {a} {x} {b} {y} e f h = subst (λ b. P x b) f (subst (λ a. P a b) e h)

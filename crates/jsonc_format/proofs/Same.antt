@@ -1,5 +1,5 @@
 -- A text with the contents of a document is a document with its value.
-use Rattle.std.proofs.Common.{ℕ, ◌≡◌, ◌∙◌, sym, ap, subst, refl, Bool, true, false, not, ◌==◌, List, [], ◌∷◌, ◌++◌, Option, Some, None, IsTrue, ◌⊎◌, inl, inr}
+use Rattle.std.proofs.Common.{ℕ, ◌≡◌, ◌∙◌, sym, ap, subst, refl, not, List, [], ◌∷◌, ◌++◌, Option, Some, None, IsTrue, inl, inr}
 use Rattle.jsonc_text.specs.Options.{Options}
 use Rattle.jsonc_text.specs.Text.{next, no, starts, Many, stop, step}
 use Rattle.jsonc_text.specs.Gaps.{is_blank, IsComment, Gap}

@@ -1,17 +1,17 @@
 -- The pieces of a document, each without the blanks that end it, are sound.
-use Rattle.std.proofs.Common.{ℕ, zero, suc, ◌≡◌, ◌∙◌, ◌-◌, sym, ap, refl, Bool, true, false, not, cond, ◌&&◌, ◌||◌, ◌==◌, List, [], ◌∷◌, ◌++◌, length, take, IsTrue, append-nil}
+use Rattle.std.proofs.Common.{ℕ, zero, suc, ◌≡◌, ◌∙◌, sym, ap, refl, Bool, true, false, not, ◌&&◌, ◌||◌, ◌==◌, List, [], ◌∷◌, ◌++◌, take, IsTrue, append-nil}
 use Rattle.jsonc_text.specs.Options.{Options}
 use Rattle.jsonc_text.specs.Text.{next, no, starts, Many, stop, step, is_line_end}
 use Rattle.jsonc_text.specs.Gaps.{is_blank, is_in_line, LineComment, line}
 use Rattle.jsonc_text.specs.Places.{is_comment}
-use Rattle.jsonc_text.specs.Lexemes.{LexemeKind, Scanned, lexeme, line_comment, block_comment, IsScanned, CanEndBefore}
+use Rattle.jsonc_text.specs.Lexemes.{LexemeKind, Scanned, lexeme, line_comment, block_comment, IsScanned}
 use Rattle.jsonc_text.proofs.Basics.{test_eq}
 use Rattle.jsonc_text.proofs.LexemesAlone.{scanned_alone}
 use Rattle.jsonc_text.proofs.UniqueTokens.{scanned_no_blank}
 use Rattle.jsonc_format.specs.Format.{Piece, IsPieces, no_more, piece, mark, in_line, written}
 use Rattle.jsonc_format.proofs.Trim.{kept, kept_step, kept_again}
 use Rattle.jsonc_format.proofs.DocumentPieces.{Named, names_next, word_named}
-use Rattle.jsonc_format.proofs.Apart.{Sound, none, some, may_follow, breaks_next}
+use Rattle.jsonc_format.proofs.Apart.{Sound, none, some, breaks_next}
 
 abbrev pub trim_what : Scanned → Scanned
 trim_what (line_comment s) = line_comment (kept s)

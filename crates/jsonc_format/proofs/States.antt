@@ -1,5 +1,5 @@
 -- What the code knows after a piece is the state of the definition.
-use Rattle.std.proofs.Common.{ℕ, ◌≡◌, ◌∙◌, sym, ap, refl, subst, Bool, true, false, not, ◌&&◌, ◌||◌, ◌==◌, nat_lt, List, [], ◌∷◌, ◌++◌, if◌then◌else◌, IsTrue, append_assoc, Option, Some, None}
+use Rattle.std.proofs.Common.{ℕ, ◌≡◌, ◌∙◌, sym, ap, refl, subst, Bool, true, false, not, ◌&&◌, ◌||◌, nat_lt, List, [], ◌∷◌, ◌++◌, if◌then◌else◌, append_assoc, Option, Some, None}
 use Rattle.jsonc_text.specs.Lexemes.{Scanned, lexeme, line_comment, block_comment}
 use Rattle.jsonc_format.specs.declared.class.Class.{Class}
 use Rattle.jsonc_format.specs.declared.class.Class.TheVariants as class
@@ -13,8 +13,8 @@ use Rattle.jsonc_scan.specs.declared.found.TokenKind.{TokenKind}
 use Rattle.jsonc_scan.specs.declared.found.TokenKind.TheVariants as kind
 use Rattle.jsonc_scan.specs.Scanner.{scanned_seen}
 use Rattle.jsonc_format.specs.Classes.{IsOf, class_by, opens_by, is_brace, closes_by, separates_by, is_colon, comments_by, is_line}
-use Rattle.jsonc_format.specs.Format.{Style, Frame, State, Piece, opens, closes, separates, mark, in_line, lines, leads, is_flat, past, is_object, without_first, new_line, gap_in_line, gap_on_lines, gap_in, after, written, layout, layout_after, start}
-use Rattle.jsonc_format.specs.Writing.{state_of, beside_after, frame_of, gap_text, gap_by, gap_on_lines_by, gap_in_line_by, frames_of}
+use Rattle.jsonc_format.specs.Format.{Style, Frame, State, Piece, closes, separates, in_line, lines, leads, is_flat, past, is_object, without_first, new_line, gap_in_line, gap_on_lines, gap_in, after, written, layout, layout_after, start}
+use Rattle.jsonc_format.specs.Writing.{state_of, beside_after, gap_text, gap_by, gap_on_lines_by, gap_in_line_by, frames_of}
 use Rattle.jsonc_format.proofs.Twice.{after_of}
 use Rattle.jsonc_format.specs.Tracks.{frames_after, gap_here, layout_by}
 

@@ -1,7 +1,7 @@
 -- One piece of a text after another, as a scanner reads them.
-use Rattle.std.proofs.Common.{ℕ, ◌≡◌, ◌∙◌, ◌≤◌, ◌<◌, sym, ap, refl, subst, List, [], ◌∷◌, ◌++◌, IsTrue, IsUtf8, IsCharBoundary, chars, slice_range, length, arith, append_assoc}
+use Rattle.std.proofs.Common.{ℕ, ◌≡◌, ◌∙◌, sym, ap, refl, subst, List, [], ◌∷◌, ◌++◌, IsTrue, IsUtf8, chars, slice_range}
 use Rattle.jsonc_text.specs.Options.{Options}
-use Rattle.jsonc_text.specs.Text.{next, no, rest, Many, Spans}
+use Rattle.jsonc_text.specs.Text.{next, no, rest, Many}
 use Rattle.jsonc_text.specs.Gaps.{is_blank}
 use Rattle.jsonc_text.specs.Lexemes.{Scanned, IsScanned}
 use Rattle.jsonc_text.proofs.Basics.{front_same}

@@ -9,7 +9,7 @@ use Rattle.jsonc_text.specs.Gaps.{is_blank}
 use Rattle.jsonc_text.specs.Lexemes.{Scanned, lexeme, line_comment, block_comment}
 use Rattle.jsonc_format.specs.Format.{is_line_comment, written}
 use Rattle.jsonc_format.specs.Styles.{is_empty, tells_level}
-use Rattle.jsonc_format.proofs.Trim.{kept, trimmed}
+use Rattle.jsonc_format.proofs.Trim.{trimmed}
 
 pub line_feed : chars (0x0A ∷ []) ≡ 0x0A ∷ []
 unfolding chars

@@ -1,6 +1,6 @@
 -- Pieces are laid out alike without the blanks that end line comments.
 use Rattle.std.specs.List.{cons_option}
-use Rattle.std.proofs.Common.{ℕ, zero, suc, ◌≡◌, ◌∙◌, sym, ap, refl, Bool, true, false, not, ◌&&◌, ◌||◌, ◌==◌, nat_lt, List, [], ◌∷◌, ◌++◌, take, IsTrue, Option, Some, if◌then◌else◌}
+use Rattle.std.proofs.Common.{ℕ, ◌≡◌, ◌∙◌, sym, ap, refl, Bool, true, false, not, ◌&&◌, ◌||◌, ◌==◌, nat_lt, List, [], ◌∷◌, ◌++◌, Some, if◌then◌else◌}
 use Rattle.jsonc_text.specs.Options.{Options}
 use Rattle.jsonc_text.specs.Text.{Many, stop, step}
 use Rattle.jsonc_text.specs.Gaps.{is_in_line, LineComment, line}
@@ -8,10 +8,10 @@ use Rattle.jsonc_text.specs.Places.{is_comment}
 use Rattle.jsonc_text.specs.Marks.{Mark, mark_of}
 use Rattle.jsonc_text.specs.Lexemes.{LexemeKind, Scanned, lexeme, line_comment, block_comment, IsScanned}
 use Rattle.jsonc_text.proofs.LexemesAlone.{scanned_alone}
-use Rattle.jsonc_format.specs.Format.{Style, Frame, State, Piece, IsPieces, no_more, piece, mark, opens, closes, separates, is_line_comment, in_line, lines, is_last, left_open, on_one_line, is_flat, leads, new_line, gap_in_line, gap_in, without_first, is_object, past, after, start, written, layout_after, layout}
-use Rattle.jsonc_format.specs.Laws.{marks_of, ended, content, contents}
+use Rattle.jsonc_format.specs.Format.{Style, Frame, State, Piece, IsPieces, no_more, piece, mark, opens, closes, separates, is_line_comment, in_line, lines, is_last, left_open, on_one_line, is_flat, leads, new_line, gap_in, without_first, is_object, past, after, start, written, layout_after, layout}
+use Rattle.jsonc_format.specs.Laws.{marks_of, content, contents}
 use Rattle.jsonc_format.proofs.Trim.{kept, kept_again}
-use Rattle.jsonc_format.proofs.Sounds.{trim, trim_what, trimmed_pieces, many_take}
+use Rattle.jsonc_format.proofs.Sounds.{trim_what, trimmed_pieces, many_take}
 
 -- a line ends in what is written of a piece where one does in the piece
 abbrev pub AreTidy : List Piece → Type 0

@@ -1,5 +1,5 @@
 -- What a piece is for its layout.
-use Rattle.std.specs.Prelude.{ℕ, ◌≡◌, Bool, true, false, ◌==◌}
+use Rattle.std.specs.Prelude.{◌≡◌, Bool, true, false, ◌==◌}
 use Rattle.jsonc_text.specs.Places.{is_comment}
 use Rattle.jsonc_text.specs.Lexemes.{Scanned}
 use Rattle.jsonc_format.specs.declared.class.Class.{Class}

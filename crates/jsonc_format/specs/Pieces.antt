@@ -1,5 +1,5 @@
 -- The pieces of a text from a place on.
-use Rattle.std.specs.Prelude.{ℕ, ◌≡◌, ◌⊎◌, Bool, List, [], ◌∷◌, chars, slice_range}
+use Rattle.std.specs.Prelude.{ℕ, ◌≡◌, ◌⊎◌, Bool, List, chars, slice_range}
 use Rattle.jsonc_text.specs.declared.errors.ParseError.{ParseError}
 use Rattle.jsonc_text.specs.Faults.{IsOutOfMemory}
 use Rattle.jsonc_format.specs.Flags.{flats}

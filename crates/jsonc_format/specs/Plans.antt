@@ -1,10 +1,9 @@
 -- What is known of containers while it is found out which are on one line.
-use Rattle.std.specs.Prelude.{ℕ, suc, ◌≡◌, ◌<◌, ◌+◌, Bool, true, false, not, ◌&&◌, ◌||◌, List, [], ◌∷◌, ◌++◌, take, drop, length, reverse, option_to_list, IsTrue, if◌then◌else◌}
+use Rattle.std.specs.Prelude.{◌≡◌, ◌<◌, ◌+◌, Bool, true, false, not, ◌||◌, List, [], ◌∷◌, ◌++◌, take, drop, length, reverse, option_to_list, if◌then◌else◌}
 use Rattle.jsonc_format.specs.declared.class.Class.{Class}
 use Rattle.jsonc_format.specs.declared.plan.Pending.{Pending}
 use Rattle.jsonc_format.specs.declared.plan.Plan.{Plan}
 use Rattle.jsonc_format.specs.Classes.{opens_by, closes_by}
-use Rattle.jsonc_format.specs.Format.{Piece, on_one_line, is_flat}
 
 -- a line ends in the innermost open container, or none does
 abbrev pub marked : Bool → List Pending → List Pending

@@ -2,8 +2,8 @@
 use Rattle.std.specs.Prelude.{ℕ, ◌≡◌, Bool, true, false, not, ◌||◌, ◌==◌, List, [], ◌∷◌, ◌++◌, if◌then◌else◌}
 use Rattle.jsonc_text.specs.Lexemes.{Scanned}
 use Rattle.jsonc_format.specs.declared.track.Track.{Track}
-use Rattle.jsonc_format.specs.Flags.{flats, flats_of}
-use Rattle.jsonc_format.specs.Format.{Style, Frame, State, Piece, opens, closes, mark, is_flat, without_first, after, gap_in, written, layout, layout_after}
+use Rattle.jsonc_format.specs.Flags.{flats}
+use Rattle.jsonc_format.specs.Format.{Style, Frame, State, Piece, opens, closes, mark, is_flat, without_first, after, gap_in, written, layout_after}
 use Rattle.jsonc_format.specs.Writing.{open_frames, state_of}
 
 -- the containers that are open after a piece that these follow

@@ -1,5 +1,5 @@
 -- What is known while a text is written, as the code keeps it.
-use Rattle.std.specs.Prelude.{ℕ, ◌≡◌, Bool, true, false, not, ◌&&◌, ◌||◌, List, [], ◌∷◌, ◌++◌, map, reverse, Option, Some, None, option_to_list, chars, String, string_bytes, if◌then◌else◌}
+use Rattle.std.specs.Prelude.{ℕ, Bool, true, false, not, ◌&&◌, ◌||◌, List, [], ◌∷◌, ◌++◌, map, reverse, Option, Some, None, option_to_list, chars, String, string_bytes, if◌then◌else◌}
 use Rattle.jsonc_format.specs.declared.class.Class.{Class}
 use Rattle.jsonc_format.specs.declared.class.Class.TheVariants as class
 use Rattle.jsonc_format.specs.declared.state.Frame as code
@@ -8,8 +8,7 @@ use Rattle.jsonc_format.specs.declared.state.Open.{Open}
 use Rattle.jsonc_format.specs.declared.output.Layout.{Layout}
 use Rattle.jsonc_format.specs.declared.gap.Gap.{Gap}
 use Rattle.jsonc_format.specs.declared.gap.Gap.TheVariants as gap
-use Rattle.jsonc_format.specs.Classes.{opens_by, closes_by, separates_by, is_colon}
-use Rattle.jsonc_format.specs.Format.{Style, Frame, State, Piece, new_line, shift, indent, without_first, gap_in, layout, layout_after, after, start, written}
+use Rattle.jsonc_format.specs.Format.{Style, Frame, State, new_line, without_first}
 
 -- the characters of a text that is written
 abbrev pub text_of : {A : Type 0} → String A → List ℕ

@@ -1,4 +1,4 @@
-use Rattle.std.proofs.Common.{chars, inl, inr}
+use Rattle.std.proofs.Common.{chars, inl}
 use Rattle.jsonc_text.specs.OptionsOf.{parse_options}
 use Rattle.jsonc_format.proofs.Results.{if_ok, if_err}
 use Rattle.jsonc_format.proofs.Wholes.{pieces_given, refused_memory, memory_fault}

@@ -1,4 +1,4 @@
-use Rattle.std.proofs.Common.{Some, None, ◌≡◌, ◌∙◌, ap, sym, refl, subst, option_map, [], ◌∷◌, chars}
+use Rattle.std.proofs.Common.{◌∙◌, ap, subst, option_map, [], ◌∷◌, chars}
 use Rattle.jsonc_text.specs.OptionsOf.{parse_options}
 use Rattle.jsonc_scan.specs.Scanner.{IsThere, seen, scanned_seen}
 use Rattle.jsonc_format.specs.Styles.{or_else}

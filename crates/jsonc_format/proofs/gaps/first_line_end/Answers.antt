@@ -1,4 +1,4 @@
-use Rattle.std.proofs.Common.{arith, refl}
+use Rattle.std.proofs.Common.{arith}
 use Rattle.std.proofs.lemmas.Str.{IsCharBoundary-start}
 use Rattle.jsonc_text.proofs.CharacterSteps.{rest_end}
 use Rattle.jsonc_format.proofs.LineEnds.{no_first, first_both, first_feed, first_return}

@@ -1,4 +1,4 @@
-use Rattle.std.proofs.Common.{◌∙◌, sym, ap, not, chars}
+use Rattle.std.proofs.Common.{◌∙◌, ap, not, chars}
 use Rattle.std.proofs.lemmas.Str.{IsCharBoundary-start}
 use Rattle.jsonc_format.specs.Format.{in_line}
 use Rattle.jsonc_format.proofs.LineEnds.{ends_again}

@@ -1,4 +1,4 @@
-use Rattle.std.proofs.Common.{arith, refl}
+use Rattle.std.proofs.Common.{arith}
 use Rattle.jsonc_text.proofs.CharacterSteps.{rest_end}
 use Rattle.jsonc_format.proofs.LineEnds.{past_end, past_both, past_feed, past_one}
 use Rattle.jsonc_format.proofs.gaps.past_line_end.Goals as goal

@@ -1,8 +1,8 @@
-use Rattle.std.proofs.Common.{Some, None, ◌≡◌, ◌∙◌, ap, sym, refl, subst, inl, inr}
+use Rattle.std.proofs.Common.{◌∙◌, ap, refl, subst}
 use Rattle.jsonc_text.specs.OptionsOf.{parse_options}
 use Rattle.jsonc_scan.specs.Scanner.{IsThere, seen, scanned_seen}
 use Rattle.jsonc_format.proofs.Planned.{plans_begin, plans_next, plans_end, not_not}
-use Rattle.jsonc_format.proofs.Reading.{at_start, at_place, read_to, no_pieces, smaller_place}
+use Rattle.jsonc_format.proofs.Reading.{at_start, at_place, read_to, smaller_place}
 use Rattle.jsonc_format.proofs.States.{class_told}
 use Rattle.jsonc_format.proofs.plan.flat_containers.Goals as goal
 

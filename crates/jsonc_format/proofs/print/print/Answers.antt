@@ -1,4 +1,4 @@
-use Rattle.std.proofs.Common.{Some, None, ◌≡◌, ◌∙◌, ap, sym, refl, subst, inr, chars, IsUtf8}
+use Rattle.std.proofs.Common.{◌∙◌, ap, sym, refl, subst, inr, chars, IsUtf8}
 use Rattle.jsonc_text.specs.OptionsOf.{parse_options}
 use Rattle.jsonc_scan.specs.Scanner.{IsThere, seen, scanned_seen}
 use Rattle.std.proofs.lemmas.Str.{chars-nil}

@@ -1,4 +1,4 @@
-use Rattle.std.proofs.Common.{◌≡◌, sym, ap, chars}
+use Rattle.std.proofs.Common.{sym, ap, chars}
 use Rattle.jsonc_format.specs.Pieces.{piece_at}
 use Rattle.jsonc_format.proofs.Results.{ok_here}
 use Rattle.jsonc_format.proofs.print.put_read.Goals as goal

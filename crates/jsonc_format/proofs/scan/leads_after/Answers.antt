@@ -1,4 +1,4 @@
-use Rattle.std.proofs.Common.{Some, None, ◌≡◌, ◌∙◌, ap, sym, refl, subst, true, false, not}
+use Rattle.std.proofs.Common.{◌∙◌, ap, sym, subst, not}
 use Rattle.jsonc_text.specs.OptionsOf.{parse_options}
 use Rattle.jsonc_scan.specs.Scanner.{IsThere, seen, scanned_seen}
 use Rattle.jsonc_format.proofs.Leading.{leads_end, leads_broken, leads_there, leads_next}

@@ -1,4 +1,3 @@
-use Rattle.std.proofs.Common.{refl}
 use Rattle.jsonc_format.specs.Plans.{pending}
 use Rattle.jsonc_format.proofs.Closing.{closed_flag, closed_rest}
 use Rattle.jsonc_format.proofs.plan.Plan.close.Goals as goal

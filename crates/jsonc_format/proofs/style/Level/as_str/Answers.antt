@@ -1,4 +1,4 @@
-use Rattle.std.proofs.Common.{◌∙◌, sym, ap, arith, take, codes}
+use Rattle.std.proofs.Common.{◌∙◌}
 use Rattle.std.proofs.lemmas.Str.{chars-nil}
 use Rattle.jsonc_format.proofs.Texts.{tab, one_space, two_spaces, three_spaces, four_spaces, five_spaces, six_spaces, seven_spaces, eight_spaces, at_least_eight}
 use Rattle.jsonc_format.proofs.style.Level.as_str.Goals as goal
