@@ -1,0 +1,12 @@
+pub mod Format
+pub mod Styles
+pub mod Laws
+pub mod Classes
+pub mod Wishes
+pub mod Gaps
+pub mod Writing
+pub mod Pieces
+pub mod Flags
+pub mod Tracks
+pub mod Plans
+pub mod Printing
