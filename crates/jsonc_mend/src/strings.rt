@@ -8,7 +8,7 @@ use crate::reading::{
 };
 use crate::recovery::{Recovery, Suspect};
 use jsonc_text::common::Range;
-use jsonc_text::errors::{ParseErrorKind, ParseStringErrorKind};
+use jsonc_text::errors::{ParseErrorKind, ParseStringErrorKind as StringFault};
 use std::alloc::{AllocError, Allocator};
 
 /// Where reading a string stops.
@@ -121,12 +121,12 @@ impl<'a, A: Allocator + Copy> Recovery<'a, A> {
             return Ok(fault.range.end);
         };
         match kind {
-            ParseStringErrorKind::InvalidEscapeInSingleQuoteString
-            | ParseStringErrorKind::InvalidEscapeInDoubleQuoteString => {
+            StringFault::InvalidEscapeInSingleQuoteString
+            | StringFault::InvalidEscapeInDoubleQuoteString => {
                 self.change(fault, start, start.saturating_add(1), "")?;
                 Ok(start.saturating_add(2))
             }
-            ParseStringErrorKind::InvalidUnicodeEscapeSequence(_, _) => {
+            StringFault::InvalidUnicodeEscapeSequence(_, _) => {
                 let end = start.saturating_add(6);
                 self.change(fault, start, end, "\\ufffd")?;
                 Ok(end)
@@ -376,6 +376,6 @@ impl<'a, A: Allocator + Copy> Recovery<'a, A> {
 
 // The fault of a string without an end.
 fn unterminated(start: usize, text: &str) -> Fault {
-    let kind = ParseErrorKind::String(ParseStringErrorKind::UnterminatedStringLiteral);
+    let kind = ParseErrorKind::String(StringFault::UnterminatedStringLiteral);
     fault(kind, start, text.len())
 }
