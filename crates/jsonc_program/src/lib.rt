@@ -3,6 +3,7 @@
 #![tactic(auto)]
 
 pub mod change;
+pub mod edit;
 pub mod lines;
 pub mod mark;
 pub mod request;

@@ -1,0 +1,24 @@
+//! The comment of a text.
+
+use std::alloc::{AllocError, Allocator};
+
+/// A text without the line ends that it ends with.
+fn without_end(text: &str) -> &str {
+    text.trim_end_matches(['\r', '\n'])
+}
+
+/// The comment of a text: the text itself, where it begins as a comment; else a line comment that says it, or a block
+/// comment, where the text has more than one line. Line ends at its end are left out.
+pub(crate) fn comment_of<A: Allocator + Copy>(
+    alloc: A,
+    text: &str,
+) -> Result<String<A>, AllocError> {
+    let text = without_end(text);
+    if text.starts_with("//") || text.starts_with("/*") {
+        return String::from_str(alloc, text);
+    }
+    if text.contains(['\r', '\n']) {
+        return format!(in alloc; "/* {text} */");
+    }
+    format!(in alloc; "// {text}")
+}

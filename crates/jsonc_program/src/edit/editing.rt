@@ -1,0 +1,43 @@
+//! An edit as a change of a file's text.
+
+use crate::edit::{Edit, EditFault, edited};
+use crate::mark::split_mark;
+use jsonc_files::Change;
+use jsonc_parser::ParseOptions;
+use std::alloc::{AllocError, Global};
+
+/// An edit under options, as a change of a text: a byte order mark stays, and what follows it becomes the document's text
+/// after the edit.
+#[derive(Drop)]
+pub struct Editing<'a> {
+    pub alloc: Global,
+    pub options: ParseOptions,
+    pub edit: Edit<'a>,
+}
+
+/// The two parts as one.
+fn joined(alloc: Global, first: &[u8], second: &[u8]) -> Result<Vec<u8>, AllocError> {
+    let mut bytes = Vec::new(alloc);
+    bytes.extend_from_slice(first)?;
+    bytes.extend_from_slice(second)?;
+    Ok(bytes)
+}
+
+impl Change<Global> for Editing<'_> {
+    type Error = EditFault<Global>;
+
+    fn new_text(&mut self, old: &[u8]) -> Result<Option<Vec<u8>>, EditFault<Global>> {
+        let (mark, rest) = split_mark(old);
+        let text = match edited(self.alloc, &self.options, self.edit, rest) {
+            Ok(text) => text,
+            Err(fault) => return Err(fault),
+        };
+        if text.as_str().as_bytes() == rest {
+            return Ok(None);
+        }
+        match joined(self.alloc, mark, text.as_str().as_bytes()) {
+            Ok(new) => Ok(Some(new)),
+            Err(error) => Err(EditFault::from(error)),
+        }
+    }
+}

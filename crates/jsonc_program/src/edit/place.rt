@@ -1,0 +1,69 @@
+//! Where words lead in a document.
+
+use jsonc_parser::cst::{CstContainerNode, CstNode, CstRootNode, EditError, TypedNode};
+use jsonc_parser::patch::{Pointer, entry_at};
+use jsonc_parser::settings::find_at;
+use std::alloc::Allocator;
+
+/// What leads from the document's value to one inside it. Of equal names the first leads on.
+#[derive(Drop)]
+pub(crate) enum Way<A: Allocator> {
+    /// Tokens, through objects and arrays.
+    Tokens(Pointer<A>),
+    /// Names, through objects alone.
+    Names(Vec<String<A>, A>),
+}
+
+/// The value that an entry is, or has.
+fn value_of_entry<A: Allocator>(document: &CstRootNode<A>, entry: CstNode) -> Option<CstNode> {
+    match entry.as_object_prop() {
+        Some(property) => property.value(document),
+        None => Some(entry),
+    }
+}
+
+/// The value to which a pointer leads.
+fn value_by_tokens<A: Allocator + Copy>(
+    document: &CstRootNode<A>,
+    pointer: &Pointer<A>,
+) -> Result<Option<CstNode>, EditError> {
+    if pointer.tokens().is_empty() {
+        return Ok(document.value());
+    }
+    match entry_at(document, pointer) {
+        Ok(Some(entry)) => Ok(value_of_entry(document, entry)),
+        Ok(None) => Ok(None),
+        Err(error) => Err(error),
+    }
+}
+
+/// The value to which the way leads, if it leads to one.
+pub(crate) fn value_at<A: Allocator + Copy>(
+    document: &CstRootNode<A>,
+    way: &Way<A>,
+) -> Result<Option<CstNode>, EditError> {
+    match way {
+        Way::Tokens(pointer) => value_by_tokens(document, pointer),
+        Way::Names(names) => find_at(document, names),
+    }
+}
+
+/// The positions over which the way leads, if it leads to a value.
+pub(crate) fn path_to<A: Allocator + Copy>(
+    document: &CstRootNode<A>,
+    way: &Way<A>,
+) -> Result<Option<Vec<usize, A>>, EditError> {
+    match value_at(document, way) {
+        Ok(Some(value)) => document.path(value),
+        Ok(None) => Ok(None),
+        Err(error) => Err(error),
+    }
+}
+
+/// The entry that a value is, or that has it.
+pub(crate) fn entry_of<A: Allocator>(document: &CstRootNode<A>, value: CstNode) -> CstNode {
+    match value.parent(document) {
+        Some(CstContainerNode::ObjectProp(property)) => property.node(),
+        _ => value,
+    }
+}

@@ -1,0 +1,153 @@
+//! The places and the values that words name.
+
+use crate::edit::fault::EditFault;
+use crate::edit::place::Way;
+use crate::edit::task::Target;
+use jsonc_engine::command::Place;
+use jsonc_engine::fault::Fault;
+use jsonc_parser::ast::Value;
+use jsonc_parser::cst::{CstInputValue, EditError, input};
+use jsonc_parser::patch::{Pointer, PointerError};
+use jsonc_parser::{CollectOptions, ParseOptions, parse_to_ast};
+use std::alloc::Allocator;
+
+/// The pointer of a text.
+pub(crate) fn pointer_of<A: Allocator + Copy>(
+    alloc: A,
+    text: &str,
+) -> Result<Pointer<A>, EditFault<A>> {
+    match Pointer::parse(alloc, text) {
+        Ok(pointer) => Ok(pointer),
+        Err(PointerError::OutOfMemory) => Err(EditFault::from(EditError::OutOfMemory)),
+        Err(error) => Err(EditFault::Engine(Fault::Pointer(error))),
+    }
+}
+
+/// The value of a JSON text, of equal names the last at the first place.
+pub(crate) fn value_of<A: Allocator + Copy>(
+    alloc: A,
+    options: &ParseOptions,
+    json: &str,
+) -> Result<CstInputValue<A>, EditFault<A>> {
+    match input::from_json(alloc, json, options) {
+        Ok(Some(value)) => Ok(value),
+        Ok(None) => Err(EditFault::Engine(Fault::NoValue)),
+        Err(error) => Err(EditFault::Engine(Fault::Argument(error))),
+    }
+}
+
+/// The text of a value that is a string.
+fn text_of<'b, A: Allocator>(value: &'b Value<'_, A>) -> Option<&'b str> {
+    match value {
+        Value::StringLit(string) => Some(string.value.as_str()),
+        Value::NumberLit(_) => None,
+        Value::BooleanLit(_) => None,
+        Value::Object(_) => None,
+        Value::Array(_) => None,
+        Value::NullKeyword(_) => None,
+    }
+}
+
+/// The elements of a value that is an array.
+fn elements_of<'b, 'a, A: Allocator>(value: &'b Value<'a, A>) -> Option<&'b [Value<'a, A>]> {
+    match value {
+        Value::StringLit(_) => None,
+        Value::NumberLit(_) => None,
+        Value::BooleanLit(_) => None,
+        Value::Object(_) => None,
+        Value::Array(array) => Some(array.elements.as_slice()),
+        Value::NullKeyword(_) => None,
+    }
+}
+
+/// Whether these values are strings.
+fn are_strings<A: Allocator>(values: &[Value<'_, A>]) -> bool {
+    for value in values {
+        let Some(_) = text_of(value) else {
+            return false;
+        };
+    }
+    true
+}
+
+/// The strings that these values are, or a fault where one is none, which is seen without memory.
+fn strings_of<A: Allocator + Copy>(
+    alloc: A,
+    values: &[Value<'_, A>],
+) -> Result<Vec<String<A>, A>, Fault<A>> {
+    if !are_strings(values) {
+        return Err(Fault::NotNames);
+    }
+    let mut names = Vec::new(alloc);
+    for value in values {
+        let Some(text) = text_of(value) else {
+            return Err(Fault::NotNames);
+        };
+        let name = String::from_str(alloc, text)?;
+        names.push(name)?;
+    }
+    Ok(names)
+}
+
+/// The names that a value is, if there is one.
+fn names_in<A: Allocator + Copy>(
+    alloc: A,
+    value: &Option<Value<'_, A>>,
+) -> Result<Vec<String<A>, A>, Fault<A>> {
+    let Some(value) = value else {
+        return Err(Fault::NotNames);
+    };
+    match elements_of(value) {
+        Some(elements) => strings_of(alloc, elements),
+        None => Err(Fault::NotNames),
+    }
+}
+
+/// The names of a path, which is read under the default options, as the engine reads it.
+fn read_path<A: Allocator + Copy>(alloc: A, path: &str) -> Result<Vec<String<A>, A>, Fault<A>> {
+    match parse_to_ast(
+        alloc,
+        path,
+        &CollectOptions::default(),
+        &ParseOptions::default(),
+    ) {
+        Ok(read) => names_in(alloc, &read.value),
+        Err(error) => Err(Fault::Path(error)),
+    }
+}
+
+/// The way to a place.
+pub(crate) fn way_to<A: Allocator + Copy>(
+    alloc: A,
+    place: Place<'_>,
+) -> Result<Way<A>, EditFault<A>> {
+    match place {
+        Place::Pointer(text) => match pointer_of(alloc, text) {
+            Ok(pointer) => Ok(Way::Tokens(pointer)),
+            Err(fault) => Err(fault),
+        },
+        Place::Names(path) => match read_path(alloc, path) {
+            Ok(names) => Ok(Way::Names(names)),
+            Err(fault) => Err(EditFault::Engine(fault)),
+        },
+    }
+}
+
+/// The way to the first property of a name in the document's object.
+fn way_by_name<A: Allocator + Copy>(alloc: A, name: &str) -> Result<Way<A>, EditFault<A>> {
+    let name = String::from_str(alloc, name)?;
+    let mut names = Vec::new(alloc);
+    names.push(name)?;
+    Ok(Way::Names(names))
+}
+
+/// The way to what an edit is of.
+pub(crate) fn way_of<A: Allocator + Copy>(
+    alloc: A,
+    target: Target<'_>,
+) -> Result<Way<A>, EditFault<A>> {
+    match target {
+        Target::At(place) => way_to(alloc, place),
+        Target::Named(name) => way_by_name(alloc, name),
+    }
+}
