@@ -1,11 +1,14 @@
-//! Files and standard input, and the texts of arguments.
-use jsonc_engine::fault::Fault;
-use jsonc_program::lines::{line_in, line_of};
+//! Files and standard input, the texts of arguments, and standard output.
+use crate::telling::{tell_cause, tell_not_utf8, tell_unread};
 use jsonc_program::mark::split_mark;
 use jsonc_words::call::{Input, Text};
-use std::alloc::Global;
-use std::io::Read;
+use std::io::{ErrorKind, Read, Write};
 use std::{fs, io, str};
+
+/// The status of what was refused.
+pub(crate) const REFUSED: u8 = 1;
+/// The status where standard output was closed, as of a process that SIGPIPE ended.
+pub(crate) const CLOSED: u8 = 141;
 
 /// All bytes of an input.
 pub(crate) fn read_input(rt: &HostRuntime, input: Input<'_>) -> io::Result<Vec<u8>> {
@@ -19,58 +22,69 @@ pub(crate) fn read_input(rt: &HostRuntime, input: Input<'_>) -> io::Result<Vec<u
     }
 }
 
-/// Tells something of an input on standard error.
-pub(crate) fn tell(rt: &HostRuntime, input: Input<'_>, told: &str) {
-    let name = match input {
-        Input::File(name) => name,
-        Input::Standard => "jsonc",
-    };
-    let _ = match line_of(rt.alloc(), name, told) {
-        Ok(line) => eprintln!(rt; "{line}"),
-        Err(_) => eprintln!(rt; "jsonc: Out of memory"),
-    };
+/// All bytes of an input. Where it cannot be read, that has been told.
+pub(crate) fn read_or_tell(rt: &HostRuntime, input: Input<'_>) -> Option<Vec<u8>> {
+    match read_input(rt, input) {
+        Ok(bytes) => Some(bytes),
+        Err(error) => {
+            tell_unread(rt, input, &error);
+            None
+        }
+    }
 }
 
-/// Tells of a fault in the text of an input.
-pub(crate) fn tell_fault(rt: &HostRuntime, input: Input<'_>, fault: &Fault<Global>) {
-    let Input::File(name) = input else {
-        let _ = eprintln!(rt; "{fault}");
-        return;
-    };
-    let _ = match line_in(rt.alloc(), name, fault) {
-        Ok(line) => eprintln!(rt; "{line}"),
-        Err(_) => eprintln!(rt; "jsonc: Out of memory"),
-    };
+/// The text of bytes after a byte order mark. Where they are not UTF-8, that has been told.
+pub(crate) fn text_or_tell<'a>(
+    rt: &HostRuntime,
+    input: Input<'_>,
+    bytes: &'a [u8],
+) -> Option<&'a str> {
+    let (_, rest) = split_mark(bytes);
+    match str::from_utf8(rest) {
+        Ok(text) => Some(text),
+        Err(_) => {
+            tell_not_utf8(rt, input, rest);
+            None
+        }
+    }
 }
 
-/// Tells that an input cannot be read.
-pub(crate) fn tell_unread(rt: &HostRuntime, input: Input<'_>, error: &io::Error) {
-    match format!(in rt.alloc(); "Cannot be read: {error}") {
-        Ok(told) => tell(rt, input, told.as_str()),
-        Err(_) => tell(rt, input, "Cannot be read"),
+/// A text of its own. Where memory is refused, that has been told.
+fn own(rt: &HostRuntime, text: &str) -> Option<String> {
+    match String::from_str(rt.alloc(), text) {
+        Ok(own) => Some(own),
+        Err(_) => {
+            tell_cause(rt, Input::Standard, "Out of memory");
+            None
+        }
     }
 }
 
 /// The text of an argument: the word itself, or what the input has after a byte order mark. Where there is none, what
 /// is wrong has been told.
 pub(crate) fn text_of(rt: &HostRuntime, text: Text<'_>) -> Option<String> {
-    let input = match text {
-        Text::Word(word) => return String::from_str(rt.alloc(), word).ok(),
-        Text::In(input) => input,
-    };
-    let bytes = match read_input(rt, input) {
-        Ok(bytes) => bytes,
-        Err(error) => {
-            tell_unread(rt, input, &error);
-            return None;
+    match text {
+        Text::Word(word) => own(rt, word),
+        Text::In(input) => {
+            let bytes = read_or_tell(rt, input)?;
+            own(rt, text_or_tell(rt, input, &bytes)?)
         }
+    }
+}
+
+/// Writes to standard output, and answers the status.
+pub(crate) fn write_out(rt: &HostRuntime, mark: &[u8], text: &[u8]) -> u8 {
+    let mut writer = io::writer(rt);
+    let outcome = match writer.write_all(mark) {
+        Ok(()) => writer.write_all(text),
+        Err(error) => Err(error),
     };
-    let (_, rest) = split_mark(&bytes);
-    match str::from_utf8(rest) {
-        Ok(text) => String::from_str(rt.alloc(), text).ok(),
+    match outcome {
+        Ok(()) => 0,
+        Err(error) if error.kind() == ErrorKind::BrokenPipe => CLOSED,
         Err(_) => {
-            tell(rt, input, "Not UTF-8");
-            None
+            tell_cause(rt, Input::Standard, "write failed");
+            REFUSED
         }
     }
 }

@@ -1,8 +1,10 @@
 //! Checks, reads and changes JSON with comments: `jsonc COMMAND`, on files or on standard input.
 #![tactic(auto)]
 
+mod findings;
 mod inputs;
 mod runs;
+mod telling;
 
 use crate::runs::run_call;
 use jsonc_words::arguments::{ArgumentsFault, arguments};

@@ -1,2 +1,3 @@
+pub mod Dialect
 pub mod Mark
 pub mod Replacing

@@ -1,9 +1,14 @@
-//! What the program `jsonc` does with the text of one input: the options of a dialect, what the engine is asked for, a
-//! command as a change of a file, and the lines of faults.
+//! What the program `jsonc` does with the text of one input: the options of a dialect, what a call asks for, a command as
+//! a change of a file, a string that is read without its quotes, and the lines of faults.
 #![tactic(auto)]
 
+pub mod argument;
 pub mod change;
+pub mod dialect;
 pub mod edit;
+pub mod job;
 pub mod lines;
 pub mod mark;
-pub mod request;
+pub mod operation;
+pub mod place;
+pub mod raw;

@@ -1,53 +1,79 @@
-//! The lines of faults: `FILE:LINE:COLUMN: ` before the cause, as compilers write them, or `FILE: ` where there is no place.
+//! The lines of faults: `FILE:LINE:COLUMN: ` before the cause, as compilers write them, or `FILE: ` where there is no
+//! place.
 use jsonc_engine::fault::Fault;
+use jsonc_parser::LineAndColumn;
+use jsonc_parser::errors::ParseError;
+use jsonc_parser::line_and_column;
+use jsonc_parser::patch::{MergePatchError, PatchError};
 use std::alloc::{AllocError, Global};
+use std::str;
 
-/// The name with its control characters escaped.
-fn shown(alloc: Global, name: &str) -> Result<String, AllocError> {
-    let mut shown = String::new(alloc);
-    for c in name.chars() {
-        match c {
-            '\n' => shown.push_str("\\n")?,
-            '\r' => shown.push_str("\\r")?,
-            '\t' => shown.push_str("\\t")?,
-            _ if c.is_control() => {
-                let escaped = format!(in alloc; "\\u{{{:x}}}", u32::from(c))?;
-                shown.push_str(escaped.as_str())?;
-            }
-            _ => shown.push(c)?,
-        }
-    }
-    Ok(shown)
+/// The line that tells this of a file, by its name as it is shown.
+pub fn line_of(alloc: Global, name: &str, told: &str) -> Result<String, AllocError> {
+    format!(in alloc; "{name}: {told}")
 }
 
-/// The line that tells this of a file.
-pub fn line_of(alloc: Global, name: &str, told: &str) -> Result<String, AllocError> {
-    let name = shown(alloc, name)?;
-    format!(in alloc; "{name}: {told}")
+/// The line that tells this of a place of a file.
+pub fn line_at(
+    alloc: Global,
+    name: &str,
+    at: LineAndColumn,
+    told: &str,
+) -> Result<String, AllocError> {
+    format!(in alloc; "{name}:{}:{}: {told}", at.line, at.column)
+}
+
+/// The line of a text of a file that is refused.
+fn refusal(alloc: Global, name: &str, error: &ParseError) -> Result<String, AllocError> {
+    format!(in alloc; "{name}:{}:{}: {}", error.line_display(), error.column_display(), error.kind())
+}
+
+/// The cause in a line of the program.
+fn cause(line: &str) -> &str {
+    match line.strip_prefix("jsonc: ") {
+        Some(cause) => cause,
+        None => line,
+    }
+}
+
+/// The line that tells of a file what this line of the program tells.
+pub fn line_for(alloc: Global, name: &str, line: &str) -> Result<String, AllocError> {
+    line_of(alloc, name, cause(line))
 }
 
 /// The line of a fault in the text of a file.
 pub fn line_in(alloc: Global, name: &str, fault: &Fault<Global>) -> Result<String, AllocError> {
     match fault {
-        Fault::Input(error) => {
-            let name = shown(alloc, name)?;
-            format!(in alloc;
-                "{name}:{}:{}: {}",
-                error.line_display(),
-                error.column_display(),
-                error.kind()
-            )
-        }
-        Fault::NonFinite(at) => {
-            let name = shown(alloc, name)?;
-            format!(in alloc; "{name}:{}:{}: number is not finite", at.line, at.column)
-        }
+        Fault::Input(error) => refusal(alloc, name, error),
+        Fault::NonFinite(at) => line_at(alloc, name, *at, "number is not finite"),
         _ => {
             let line = format!(in alloc; "{fault}")?;
-            match line.as_str().split_once("jsonc: ") {
-                Some((_, cause)) => line_of(alloc, name, cause),
-                None => line_of(alloc, name, line.as_str()),
-            }
+            line_for(alloc, name, line.as_str())
         }
+    }
+}
+
+/// The line of a fault of an argument whose text is that of a file.
+pub fn line_in_argument(
+    alloc: Global,
+    name: &str,
+    fault: &Fault<Global>,
+) -> Result<String, AllocError> {
+    match fault {
+        Fault::Argument(error)
+        | Fault::Patch(PatchError::Parse(error))
+        | Fault::MergePatch(MergePatchError::Parse(error)) => refusal(alloc, name, error),
+        _ => line_in(alloc, name, fault),
+    }
+}
+
+/// Where bytes are not UTF-8, if they are not.
+pub fn place_of_other_bytes(bytes: &[u8]) -> Option<LineAndColumn> {
+    let Err(error) = str::from_utf8(bytes) else {
+        return None;
+    };
+    match str::from_utf8(&bytes[..error.valid_up_to()]) {
+        Ok(text) => Some(line_and_column(text, text.len())),
+        Err(_) => None,
     }
 }

@@ -1,0 +1,175 @@
+//! What a call asks for.
+use crate::edit::{Edit, Target};
+use crate::place::place_of;
+use jsonc_engine::command::{Command, Place};
+use jsonc_words::call;
+use jsonc_words::call::Format;
+
+/// How many bytes a document may have that is patched, where the words name no other number.
+const MOST_BYTES: usize = 1_000_000_000;
+
+/// What is made of each input.
+#[derive(Clone, Copy, Debug)]
+pub enum Job<'a> {
+    /// What the engine makes of it by this command.
+    Run(Command<'a>),
+    /// The document after an edit that the engine does not have.
+    Edit(Edit<'a>),
+    /// The value at a place, a string without its quotes.
+    Raw(Place<'a>),
+    /// Its faults, as JSON.
+    Check,
+    /// What a linter finds in it.
+    Lint {
+        format: Format,
+        no_trailing_commas: bool,
+    },
+}
+
+/// A word that names no place.
+#[derive(Clone, Copy, Debug)]
+pub struct NotAPlace<'a> {
+    pub word: &'a str,
+}
+
+/// The place that a word names.
+fn place<'a>(word: &'a str) -> Result<Place<'a>, NotAPlace<'a>> {
+    match place_of(word) {
+        Some(place) => Ok(place),
+        None => Err(NotAPlace { word }),
+    }
+}
+
+fn set_job<'a>(name: &'a str, json: &'a str, must_exist: bool) -> Job<'a> {
+    if must_exist {
+        let target = Target::Named(name);
+        Job::Edit(Edit::Replace { target, json })
+    } else {
+        Job::Run(Command::Set { name, json })
+    }
+}
+
+fn remove_job<'a>(name: &'a str, with_comments: bool, must_exist: bool) -> Job<'a> {
+    if with_comments || must_exist {
+        Job::Edit(Edit::Remove {
+            target: Target::Named(name),
+            with_comments,
+            must_exist,
+        })
+    } else {
+        Job::Run(Command::Remove { name })
+    }
+}
+
+fn drop_job<'a>(place: Place<'a>, with_comments: bool, must_exist: bool) -> Job<'a> {
+    match place {
+        Place::Names(names) if !with_comments && !must_exist => Job::Run(Command::Drop { names }),
+        place => Job::Edit(Edit::Remove {
+            target: Target::At(place),
+            with_comments,
+            must_exist,
+        }),
+    }
+}
+
+fn put_job<'a>(place: Place<'a>, json: &'a str, must_exist: bool) -> Job<'a> {
+    if must_exist {
+        let target = Target::At(place);
+        return Job::Edit(Edit::Replace { target, json });
+    }
+    match place {
+        Place::Names(names) => Job::Run(Command::Put { names, json }),
+        Place::Pointer(pointer) => Job::Edit(Edit::Put { pointer, json }),
+    }
+}
+
+fn sort_job<'a>(at: Option<Place<'a>>, is_recursive: bool, keeps_headers: bool) -> Job<'a> {
+    if at.is_none() && !is_recursive && !keeps_headers {
+        return Job::Run(Command::Sort);
+    }
+    Job::Edit(Edit::Sort {
+        at,
+        is_recursive,
+        keeps_headers,
+    })
+}
+
+fn get_job<'a>(place: Place<'a>, is_raw: bool) -> Job<'a> {
+    if is_raw {
+        Job::Raw(place)
+    } else {
+        Job::Run(Command::Get { place })
+    }
+}
+
+fn check_job<'a>(format: Format) -> Job<'a> {
+    match format {
+        Format::Text => Job::Run(Command::Check),
+        Format::Json => Job::Check,
+    }
+}
+
+fn patch_job<'a>(text: &'a str, most_bytes: Option<u64>) -> Job<'a> {
+    let most = match most_bytes {
+        Some(most) => most as usize,
+        None => MOST_BYTES,
+    };
+    Job::Run(Command::Patch { text, most })
+}
+
+/// What a command with this text as its last argument asks for.
+pub fn job_of<'a>(
+    command: call::Command<'a>,
+    must_exist: bool,
+    text: &'a str,
+) -> Result<Job<'a>, NotAPlace<'a>> {
+    Ok(match command {
+        call::Command::Check { format } => check_job(format),
+        call::Command::Print => Job::Run(Command::Print),
+        call::Command::Set { name, .. } => set_job(name, text, must_exist),
+        call::Command::Append { .. } => Job::Run(Command::Append { json: text }),
+        call::Command::Remove {
+            name,
+            with_comments,
+        } => remove_job(name, with_comments, must_exist),
+        call::Command::Sort {
+            at: None,
+            is_recursive,
+            keeps_headers,
+        } => sort_job(None, is_recursive, keeps_headers),
+        call::Command::Sort {
+            at: Some(at),
+            is_recursive,
+            keeps_headers,
+        } => sort_job(Some(place(at)?), is_recursive, keeps_headers),
+        call::Command::Drop {
+            place: at,
+            with_comments,
+        } => drop_job(place(at)?, with_comments, must_exist),
+        call::Command::Get { place: at, is_raw } => get_job(place(at)?, is_raw),
+        call::Command::Put { place: at, .. } => put_job(place(at)?, text, must_exist),
+        call::Command::Rename { place: at, name } => {
+            let place = place(at)?;
+            Job::Edit(Edit::Rename { place, name })
+        }
+        call::Command::Comment {
+            place: at,
+            is_after,
+            ..
+        } => Job::Edit(Edit::Comment {
+            place: place(at)?,
+            text,
+            is_after,
+        }),
+        call::Command::Patch { most_bytes, .. } => patch_job(text, most_bytes),
+        call::Command::Merge { .. } => Job::Run(Command::Merge { text }),
+        call::Command::Json => Job::Run(Command::Json),
+        call::Command::Lint {
+            format,
+            no_trailing_commas,
+        } => Job::Lint {
+            format,
+            no_trailing_commas,
+        },
+    })
+}

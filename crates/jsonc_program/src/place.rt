@@ -1,0 +1,12 @@
+//! The words of places.
+use jsonc_engine::command::Place;
+
+/// The place that a word names: a JSON Pointer where it is empty or begins with `/`, an array of names where it begins
+/// with `[`. Any other word names none.
+pub fn place_of<'a>(word: &'a str) -> Option<Place<'a>> {
+    match word.as_bytes().first() {
+        None | Some(b'/') => Some(Place::Pointer(word)),
+        Some(b'[') => Some(Place::Names(word)),
+        Some(_) => None,
+    }
+}
