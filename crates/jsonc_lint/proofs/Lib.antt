@@ -1,0 +1,4 @@
+pub mod Boundaries
+pub mod Repeats
+pub mod KindRules
+pub mod Walk

@@ -1,0 +1,6 @@
+pub mod Findings
+pub mod Lines
+pub mod Linted
+pub mod Messages
+pub mod SeenNames
+pub mod Steps

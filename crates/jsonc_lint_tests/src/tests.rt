@@ -1,0 +1,5 @@
+//! The tests, and what they share.
+
+mod findings;
+mod lines;
+mod memory;
