@@ -19,7 +19,7 @@ use jsonc_program::edit::{EditFault, edited};
 use jsonc_program::job::{Job, job_of};
 use jsonc_program::mark::split_mark;
 use jsonc_program::operation::told_of_patch;
-use jsonc_program::raw::raw;
+use jsonc_program::value::value_text;
 use jsonc_words::call::{Call, Input, Text};
 use std::alloc::Global;
 
@@ -143,13 +143,12 @@ fn made(work: &Work<'_>, input: &[u8]) -> Result<Option<String>, EditFault<Globa
             Ok(text) => Ok(Some(text)),
             Err(fault) => Err(fault),
         },
-        Job::Raw(place) => match run_engine(work, Command::Get { place }, input) {
-            Ok(Some(text)) => match raw(work.rt.alloc(), &work.options, text) {
+        Job::Get { place, is_raw } => {
+            match value_text(work.rt.alloc(), &work.options, place, is_raw, input) {
                 Ok(text) => Ok(Some(text)),
-                Err(error) => Err(EditFault::from(error)),
-            },
-            other => other,
-        },
+                Err(fault) => Err(fault),
+            }
+        }
         Job::Check | Job::Lint { .. } => Ok(None),
     }
 }
@@ -242,7 +241,7 @@ fn run_in_place(work: &Work<'_>, name: &str) -> End {
             let replaced = replace(alloc, &mut folder, &mut change);
             end_in_place(work, Input::File(name), replaced)
         }
-        Job::Raw(_) | Job::Check | Job::Lint { .. } => ended(WORDS),
+        Job::Get { .. } | Job::Check | Job::Lint { .. } => ended(WORDS),
     }
 }
 

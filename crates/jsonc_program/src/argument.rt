@@ -1,4 +1,9 @@
-//! The texts of arguments.
+//! The last argument of a command: JSON, a patch, or the text of a comment.
+ghost use Rattle.std.specs.Prelude.{◌≡◌, string_bytes, IfErr, IfOk, IsTrue, OnOk};
+ghost use Rattle.jsonc_text.specs.OptionsOf.{parse_options};
+ghost use Rattle.jsonc_engine.specs.Input.{IsInputOf, IsRefusalOf};
+ghost use Rattle.jsonc_program.specs.Arguments.{argument_of, is_string, takes_json};
+
 use jsonc_layout::input::spelling::spell;
 use jsonc_parser::errors::ParseError;
 use jsonc_parser::{ParseOptions, check_document};
@@ -6,7 +11,9 @@ use jsonc_words::call::Command;
 use std::alloc::{AllocError, Global};
 
 /// Whether a command takes JSON.
-pub fn takes_json(command: Command<'_>) -> bool {
+pub fn takes_json(command: Command<'_>) -> bool
+    ensures { result ≡ takes_json command.entry }
+{
     match command {
         Command::Set { .. } | Command::Append { .. } | Command::Put { .. } => true,
         _ => false,
@@ -14,7 +21,9 @@ pub fn takes_json(command: Command<'_>) -> bool {
 }
 
 /// Whether a command's value is the string that its text is.
-pub fn is_string(command: Command<'_>) -> bool {
+pub fn is_string(command: Command<'_>) -> bool
+    ensures { result ≡ is_string command.entry }
+{
     match command {
         Command::Set { value, .. } => value.is_string,
         Command::Append { value } => value.is_string,
@@ -28,7 +37,9 @@ pub fn argument_of(
     alloc: Global,
     command: Command<'_>,
     text: String,
-) -> Result<String, AllocError> {
+) -> Result<String, AllocError>
+    ensures { IfOk result (λ taken. string_bytes taken ≡ argument_of command.entry (string_bytes text.entry)) }
+{
     if is_string(command) {
         spell(alloc, text.as_str())
     } else {
@@ -42,7 +53,11 @@ pub fn check_argument(
     options: &ParseOptions,
     command: Command<'_>,
     text: &str,
-) -> Result<(), ParseError> {
+) -> Result<(), ParseError>
+    ensures accepted { OnOk result (IsTrue (takes_json command.entry)
+        → IsInputOf (parse_options options.now) text.now) }
+    ensures refused { IfErr result (IsRefusalOf (parse_options options.now) text.now) }
+{
     if !takes_json(command) {
         return Ok(());
     }

@@ -1,4 +1,9 @@
 //! What a call asks for.
+ghost use Rattle.std.specs.Prelude.{◌≡◌, ℕ, List, None, IfErr, IfOk};
+ghost use Rattle.jsonc_words.specs.declared.call.Command.TheVariants as command;
+ghost use Rattle.jsonc_program.specs.Jobs.{HasPlace, IsJobOf};
+ghost use Rattle.jsonc_program.specs.Place.{IsNoPlace, IsPlace};
+
 use crate::edit::{Edit, Target};
 use crate::place::place_of;
 use jsonc_engine::command::{Command, Place};
@@ -15,8 +20,8 @@ pub enum Job<'a> {
     Run(Command<'a>),
     /// The document after an edit that the engine does not have.
     Edit(Edit<'a>),
-    /// The value at a place, a string without its quotes.
-    Raw(Place<'a>),
+    /// The value at a place, a string as it is written or raw.
+    Get { place: Place<'a>, is_raw: bool },
     /// Its faults, as JSON.
     Check,
     /// What a linter finds in it.
@@ -33,7 +38,10 @@ pub struct NotAPlace<'a> {
 }
 
 /// The place that a word names.
-fn place<'a>(word: &'a str) -> Result<Place<'a>, NotAPlace<'a>> {
+fn place<'a>(word: &'a str) -> Result<Place<'a>, NotAPlace<'a>>
+    ensures named { IfOk result (IsPlace word.now) }
+    ensures refused { IfErr result (λ fault. (fault.word.now ≡ word.now) × IsNoPlace word.now) }
+{
     match place_of(word) {
         Some(place) => Ok(place),
         None => Err(NotAPlace { word }),
@@ -94,14 +102,6 @@ fn sort_job<'a>(at: Option<Place<'a>>, is_recursive: bool, keeps_headers: bool) 
     })
 }
 
-fn get_job<'a>(place: Place<'a>, is_raw: bool) -> Job<'a> {
-    if is_raw {
-        Job::Raw(place)
-    } else {
-        Job::Run(Command::Get { place })
-    }
-}
-
 fn check_job<'a>(format: Format) -> Job<'a> {
     match format {
         Format::Text => Job::Run(Command::Check),
@@ -122,7 +122,10 @@ pub fn job_of<'a>(
     command: call::Command<'a>,
     must_exist: bool,
     text: &'a str,
-) -> Result<Job<'a>, NotAPlace<'a>> {
+) -> Result<Job<'a>, NotAPlace<'a>>
+    ensures asked { IfOk result (IsJobOf command.entry must_exist text.now) }
+    ensures refused { IfErr result (λ fault. HasPlace command.entry fault.word.now × IsNoPlace fault.word.now) }
+{
     Ok(match command {
         call::Command::Check { format } => check_job(format),
         call::Command::Print => Job::Run(Command::Print),
@@ -146,7 +149,10 @@ pub fn job_of<'a>(
             place: at,
             with_comments,
         } => drop_job(place(at)?, with_comments, must_exist),
-        call::Command::Get { place: at, is_raw } => get_job(place(at)?, is_raw),
+        call::Command::Get { place: at, is_raw } => Job::Get {
+            place: place(at)?,
+            is_raw,
+        },
         call::Command::Put { place: at, .. } => put_job(place(at)?, text, must_exist),
         call::Command::Rename { place: at, name } => {
             let place = place(at)?;

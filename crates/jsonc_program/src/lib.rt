@@ -11,4 +11,5 @@ pub mod lines;
 pub mod mark;
 pub mod operation;
 pub mod place;
-pub mod raw;
+mod raw;
+pub mod value;

@@ -1,5 +1,9 @@
 //! The lines of faults: `FILE:LINE:COLUMN: ` before the cause, as compilers write them, or `FILE: ` where there is no
 //! place.
+ghost use Rattle.std.specs.Prelude.{◌≡◌, ◌++◌, ℕ, List, codes, string_bytes, IfOk};
+ghost use Rattle.jsonc_engine.specs.FaultLines.{front_of};
+ghost use Rattle.jsonc_program.specs.Lines.{line_in as line_of_fault, line_with, line_without, refusal_line};
+
 use jsonc_engine::fault::Fault;
 use jsonc_parser::LineAndColumn;
 use jsonc_parser::errors::ParseError;
@@ -9,7 +13,9 @@ use std::alloc::{AllocError, Global};
 use std::str;
 
 /// The line that tells this of a file, by its name as it is shown.
-pub fn line_of(alloc: Global, name: &str, told: &str) -> Result<String, AllocError> {
+pub fn line_of(alloc: Global, name: &str, told: &str) -> Result<String, AllocError>
+    ensures { IfOk result (λ line. string_bytes line ≡ line_without name.now told.now) }
+{
     format!(in alloc; "{name}: {told}")
 }
 
@@ -19,17 +25,23 @@ pub fn line_at(
     name: &str,
     at: LineAndColumn,
     told: &str,
-) -> Result<String, AllocError> {
+) -> Result<String, AllocError>
+    ensures { IfOk result (λ line. string_bytes line ≡ line_with name.now at.line at.column told.now) }
+{
     format!(in alloc; "{name}:{}:{}: {told}", at.line, at.column)
 }
 
 /// The line of a text of a file that is refused.
-fn refusal(alloc: Global, name: &str, error: &ParseError) -> Result<String, AllocError> {
+fn refusal(alloc: Global, name: &str, error: &ParseError) -> Result<String, AllocError>
+    ensures { IfOk result (λ line. string_bytes line ≡ refusal_line name.now error.now) }
+{
     format!(in alloc; "{name}:{}:{}: {}", error.line_display(), error.column_display(), error.kind())
 }
 
 /// The cause in a line of the program.
-fn cause(line: &str) -> &str {
+fn cause(line: &str) -> &str
+    ensures { (told : List ℕ) → line.now ≡ codes "jsonc: " ++ told → result.now ≡ told }
+{
     match line.strip_prefix("jsonc: ") {
         Some(cause) => cause,
         None => line,
@@ -37,12 +49,18 @@ fn cause(line: &str) -> &str {
 }
 
 /// The line that tells of a file what this line of the program tells.
-pub fn line_for(alloc: Global, name: &str, line: &str) -> Result<String, AllocError> {
+pub fn line_for(alloc: Global, name: &str, line: &str) -> Result<String, AllocError>
+    ensures { (told : List ℕ) → line.now ≡ codes "jsonc: " ++ told
+        → IfOk result (λ line. string_bytes line ≡ line_without name.now told) }
+{
     line_of(alloc, name, cause(line))
 }
 
 /// The line of a fault in the text of a file.
-pub fn line_in(alloc: Global, name: &str, fault: &Fault<Global>) -> Result<String, AllocError> {
+pub fn line_in(alloc: Global, name: &str, fault: &Fault<Global>) -> Result<String, AllocError>
+    ensures { front_of fault.now ≡ codes "jsonc: "
+        → IfOk result (λ line. string_bytes line ≡ line_of_fault name.now fault.now) }
+{
     match fault {
         Fault::Input(error) => refusal(alloc, name, error),
         Fault::NonFinite(at) => line_at(alloc, name, *at, "number is not finite"),
