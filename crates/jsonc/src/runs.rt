@@ -273,7 +273,12 @@ fn run_work(work: &Work<'_>, files: &[Input<'_>]) -> u8 {
         Job::Lint {
             format,
             no_trailing_commas,
-        } => find_all(work.rt, &work.options, of_lint(format, no_trailing_commas), files),
+        } => find_all(
+            work.rt,
+            &work.options,
+            of_lint(format, no_trailing_commas),
+            files,
+        ),
         _ => run_all(work, files),
     }
 }
@@ -308,8 +313,12 @@ fn run_with_text(rt: &HostRuntime, call: &Call<'_>, source: Text<'_>, text: &str
     }
 }
 
-/// Runs the call, and answers the status.
+/// Runs the call, and answers the status. Where a word names no place nothing is read.
 pub(crate) fn run_call(rt: &HostRuntime, call: &Call<'_>) -> u8 {
+    if let Err(fault) = job_of(call.command, call.must_exist, "") {
+        tell_place(rt, fault.word);
+        return WORDS;
+    }
     let source = match call.command.text() {
         Some(source) => source,
         None => Text::Word(""),

@@ -107,7 +107,7 @@ pub(crate) fn tell_argument(rt: &HostRuntime, source: Text<'_>, fault: &Fault<Gl
 }
 
 fn json_line(rt: &HostRuntime, word: &str, error: ParseError) -> Result<String, AllocError> {
-    let fault = Fault::Argument(error);
+    let fault: Fault<Global> = Fault::Argument(error);
     if lacks_quotes(word) {
         format!(in rt.alloc(); "{fault}: a string wants quotes, as '\"dark\"', or --string")
     } else {
@@ -146,7 +146,8 @@ pub(crate) fn tell_file_error(rt: &HostRuntime, input: Input<'_>, error: &FileEr
 /// Tells that a file has the new text, which a crash may lose.
 pub(crate) fn tell_not_durable(rt: &HostRuntime, input: Input<'_>, error: &io::Error) {
     let told = format!(in rt.alloc();
-        "The new text is written, but the folder could not be synchronized: {error}");
+        "The new text is written, but the folder could not be synchronized: {error}"
+    );
     match told {
         Ok(told) => tell_cause(rt, input, told.as_str()),
         Err(_) => tell_cause(rt, input, "The folder could not be synchronized"),

@@ -33,11 +33,7 @@ pub fn is_string(command: Command<'_>) -> bool
 }
 
 /// The text of an argument as a command takes it: JSON, where it is the string itself.
-pub fn argument_of(
-    alloc: Global,
-    command: Command<'_>,
-    text: String,
-) -> Result<String, AllocError>
+pub fn argument_of(alloc: Global, command: Command<'_>, text: String) -> Result<String, AllocError>
     ensures { IfOk result (λ taken. string_bytes taken ≡ argument_of command.entry (string_bytes text.entry)) }
 {
     if is_string(command) {

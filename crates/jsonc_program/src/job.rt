@@ -1,7 +1,10 @@
 //! What a call asks for.
-ghost use Rattle.std.specs.Prelude.{◌≡◌, ℕ, List, None, IfErr, IfOk};
-ghost use Rattle.jsonc_words.specs.declared.call.Command.TheVariants as command;
-ghost use Rattle.jsonc_program.specs.Jobs.{HasPlace, IsJobOf};
+ghost use Rattle.std.specs.Borrow.{Bor};
+ghost use Rattle.std.specs.Prelude.{◌≡◌, ℕ, Bool, List, Option, IfErr, IfOk};
+ghost use Rattle.jsonc_words.specs.declared.call.Command.TheVariants as called;
+ghost use Rattle.jsonc_words.specs.declared.call.Text.{Text};
+ghost use Rattle.jsonc_words.specs.declared.call.Value.{Value};
+ghost use Rattle.jsonc_program.specs.Jobs.{HasPlace, IsJobOf, IsPlaceOf};
 ghost use Rattle.jsonc_program.specs.Place.{IsNoPlace, IsPlace};
 
 use crate::edit::{Edit, Target};
@@ -21,7 +24,10 @@ pub enum Job<'a> {
     /// The document after an edit that the engine does not have.
     Edit(Edit<'a>),
     /// The value at a place, a string as it is written or raw.
-    Get { place: Place<'a>, is_raw: bool },
+    Get {
+        place: Place<'a>,
+        is_raw: bool,
+    },
     /// Its faults, as JSON.
     Check,
     /// What a linter finds in it.
@@ -48,7 +54,9 @@ fn place<'a>(word: &'a str) -> Result<Place<'a>, NotAPlace<'a>>
     }
 }
 
-fn set_job<'a>(name: &'a str, json: &'a str, must_exist: bool) -> Job<'a> {
+fn set_job<'a>(name: &'a str, json: &'a str, must_exist: bool) -> Job<'a>
+    ensures { (value : Value) → IsJobOf (called.Set name.entry value) must_exist json.now result }
+{
     if must_exist {
         let target = Target::Named(name);
         Job::Edit(Edit::Replace { target, json })
@@ -57,7 +65,9 @@ fn set_job<'a>(name: &'a str, json: &'a str, must_exist: bool) -> Job<'a> {
     }
 }
 
-fn remove_job<'a>(name: &'a str, with_comments: bool, must_exist: bool) -> Job<'a> {
+fn remove_job<'a>(name: &'a str, with_comments: bool, must_exist: bool) -> Job<'a>
+    ensures { (text : List ℕ) → IsJobOf (called.Remove name.entry with_comments) must_exist text result }
+{
     if with_comments || must_exist {
         Job::Edit(Edit::Remove {
             target: Target::Named(name),
@@ -69,7 +79,10 @@ fn remove_job<'a>(name: &'a str, with_comments: bool, must_exist: bool) -> Job<'
     }
 }
 
-fn drop_job<'a>(place: Place<'a>, with_comments: bool, must_exist: bool) -> Job<'a> {
+fn drop_job<'a>(place: Place<'a>, with_comments: bool, must_exist: bool) -> Job<'a>
+    ensures { (word : Bor (List ℕ)) (text : List ℕ) → IsPlace word.now place.entry
+        → IsJobOf (called.Drop word with_comments) must_exist text result }
+{
     match place {
         Place::Names(names) if !with_comments && !must_exist => Job::Run(Command::Drop { names }),
         place => Job::Edit(Edit::Remove {
@@ -80,7 +93,10 @@ fn drop_job<'a>(place: Place<'a>, with_comments: bool, must_exist: bool) -> Job<
     }
 }
 
-fn put_job<'a>(place: Place<'a>, json: &'a str, must_exist: bool) -> Job<'a> {
+fn put_job<'a>(place: Place<'a>, json: &'a str, must_exist: bool) -> Job<'a>
+    ensures { (word : Bor (List ℕ)) (value : Value) → IsPlace word.now place.entry
+        → IsJobOf (called.Put word value) must_exist json.now result }
+{
     if must_exist {
         let target = Target::At(place);
         return Job::Edit(Edit::Replace { target, json });
@@ -91,7 +107,10 @@ fn put_job<'a>(place: Place<'a>, json: &'a str, must_exist: bool) -> Job<'a> {
     }
 }
 
-fn sort_job<'a>(at: Option<Place<'a>>, is_recursive: bool, keeps_headers: bool) -> Job<'a> {
+fn sort_job<'a>(at: Option<Place<'a>>, is_recursive: bool, keeps_headers: bool) -> Job<'a>
+    ensures { (word : Option (Bor (List ℕ))) (must : Bool) (text : List ℕ) → IsPlaceOf word at.entry
+        → IsJobOf (called.Sort word is_recursive keeps_headers) must text result }
+{
     if at.is_none() && !is_recursive && !keeps_headers {
         return Job::Run(Command::Sort);
     }
@@ -102,14 +121,18 @@ fn sort_job<'a>(at: Option<Place<'a>>, is_recursive: bool, keeps_headers: bool) 
     })
 }
 
-fn check_job<'a>(format: Format) -> Job<'a> {
+fn check_job<'a>(format: Format) -> Job<'a>
+    ensures { (must : Bool) (text : List ℕ) → IsJobOf (called.Check format) must text result }
+{
     match format {
         Format::Text => Job::Run(Command::Check),
         Format::Json => Job::Check,
     }
 }
 
-fn patch_job<'a>(text: &'a str, most_bytes: Option<u64>) -> Job<'a> {
+fn patch_job<'a>(text: &'a str, most_bytes: Option<u64>) -> Job<'a>
+    ensures { (source : Text) (must : Bool) → IsJobOf (called.Patch source most_bytes) must text.now result }
+{
     let most = match most_bytes {
         Some(most) => most as usize,
         None => MOST_BYTES,

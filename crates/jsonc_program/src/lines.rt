@@ -5,10 +5,9 @@ ghost use Rattle.jsonc_engine.specs.FaultLines.{front_of};
 ghost use Rattle.jsonc_program.specs.Lines.{line_in as line_of_fault, line_with, line_without, refusal_line};
 
 use jsonc_engine::fault::Fault;
-use jsonc_parser::LineAndColumn;
 use jsonc_parser::errors::ParseError;
-use jsonc_parser::line_and_column;
 use jsonc_parser::patch::{MergePatchError, PatchError};
+use jsonc_parser::{LineAndColumn, line_and_column};
 use std::alloc::{AllocError, Global};
 use std::str;
 
@@ -35,7 +34,12 @@ pub fn line_at(
 fn refusal(alloc: Global, name: &str, error: &ParseError) -> Result<String, AllocError>
     ensures { IfOk result (λ line. string_bytes line ≡ refusal_line name.now error.now) }
 {
-    format!(in alloc; "{name}:{}:{}: {}", error.line_display(), error.column_display(), error.kind())
+    format!(in alloc;
+        "{name}:{}:{}: {}",
+        error.line_display(),
+        error.column_display(),
+        error.kind()
+    )
 }
 
 /// The cause in a line of the program.

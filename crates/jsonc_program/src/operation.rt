@@ -184,7 +184,14 @@ pub fn told_of_patch(
     match fault {
         Fault::Operation(operation) => {
             let cause = format!(in alloc; "{}", operation.cause)?;
-            told_of(alloc, options, patch, input, operation.operation, cause.as_str())
+            told_of(
+                alloc,
+                options,
+                patch,
+                input,
+                operation.operation,
+                cause.as_str(),
+            )
         }
         Fault::TooLarge(operation, most) => {
             let cause = format!(in alloc; "Document would have more bytes than {most}")?;

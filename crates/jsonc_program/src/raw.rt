@@ -23,7 +23,11 @@ fn decoded(
 }
 
 /// A value that was written with a line feed after it, where it is a string its characters.
-pub(crate) fn raw(alloc: Global, options: &ParseOptions, written: String) -> Result<String, AllocError> {
+pub(crate) fn raw(
+    alloc: Global,
+    options: &ParseOptions,
+    written: String,
+) -> Result<String, AllocError> {
     if !written.starts_with(['"', '\'']) {
         return Ok(written);
     }

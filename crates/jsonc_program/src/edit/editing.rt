@@ -24,6 +24,10 @@ fn joined(alloc: Global, first: &[u8], second: &[u8]) -> Result<Vec<u8>, AllocEr
 }
 
 impl Change<Global> for Editing<'_> {
+    ghost makes = { λ _ _ _. Unit {0} };
+
+    ghost refuses = { λ _ _ _. Unit {0} };
+
     type Error = EditFault<Global>;
 
     fn new_text(&mut self, old: &[u8]) -> Result<Option<Vec<u8>>, EditFault<Global>> {
