@@ -1,2 +1,3 @@
 pub mod Mark
 pub mod Replacing
+pub mod edit
