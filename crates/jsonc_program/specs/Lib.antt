@@ -5,3 +5,4 @@ pub mod Lines
 pub mod Mark
 pub mod Place
 pub mod Replacing
+pub mod edit

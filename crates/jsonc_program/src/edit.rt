@@ -1,6 +1,13 @@
 //! Edits that the engine has no command for: at a place that a JSON Pointer or names lead to, with the comments of an
 //! entry, names, comments, and sorts.
 
+ghost use Rattle.std.specs.Prelude.{◌≡◌, ◌⊎◌, IfErr, IfOk, IsUtf8, chars, string_bytes};
+ghost use Rattle.jsonc_text.specs.OptionsOf.{parse_options};
+ghost use Rattle.jsonc_sound.specs.Documents.{ShowsText};
+ghost use Rattle.jsonc_cst.specs.Document.{HasNoDeeperValue, printed_of, tree_of};
+ghost use Rattle.jsonc_program.specs.edit.Editing.{IsEdited};
+ghost use Rattle.jsonc_program.specs.edit.Faults.{IsCause, IsFaultOfInput, IsForMemory};
+
 use crate::edit::making::make;
 use crate::edit::task::task_of;
 use jsonc_engine::fault::Fault;
@@ -25,7 +32,11 @@ fn document_of<A: Allocator + Copy>(
     alloc: A,
     options: &ParseOptions,
     input: &[u8],
-) -> Result<CstRootNode<A>, EditFault<A>> {
+) -> Result<CstRootNode<A>, EditFault<A>>
+    ensures shown { IfOk result (λ d. ShowsText (parse_options options.now) (chars input.now) (tree_of d)) }
+    ensures within { IfOk result (λ d. HasNoDeeperValue (parse_options options.now) input.now) }
+    ensures refused { IfErr result (IsFaultOfInput (parse_options options.now) input.now) }
+{
     let Ok(text) = str::from_utf8(input) else {
         return Err(EditFault::Engine(Fault::NotUtf8));
     };
@@ -36,7 +47,10 @@ fn document_of<A: Allocator + Copy>(
 }
 
 /// The text of a document.
-fn text_of<A: Allocator + Copy>(document: &CstRootNode<A>) -> Result<String<A>, EditFault<A>> {
+fn text_of<A: Allocator + Copy>(document: &CstRootNode<A>) -> Result<String<A>, EditFault<A>>
+    ensures printed { IfOk result (λ text. string_bytes text ≡ printed_of document.now) }
+    ensures memory { IfErr result IsForMemory }
+{
     match document.text() {
         Ok(text) => Ok(text),
         Err(_) => Err(EditFault::Engine(Fault::Edit(EditError::OutOfMemory))),
@@ -54,7 +68,10 @@ pub fn edited<A: Allocator + Copy>(
     options: &ParseOptions,
     edit: Edit<'_>,
     input: &[u8],
-) -> Result<String<A>, EditFault<A>> {
+) -> Result<String<A>, EditFault<A>>
+    ensures edited { IfOk result (λ text. IsEdited (parse_options options.now) edit input.now (string_bytes text)) }
+    ensures refused { IfErr result (IsCause (parse_options options.now) edit input.now) }
+{
     let task = task_of(alloc, options, edit)?;
     let mut document = document_of(alloc, options, input)?;
     make(&mut document, task)?;

@@ -1,5 +1,7 @@
 //! An edit as a change of a file's text.
 
+ghost use Rattle.std.specs.Prelude.{◌≡◌, ◌++◌, IfOk};
+
 use crate::edit::{Edit, EditFault, edited};
 use crate::mark::split_mark;
 use jsonc_files::Change;
@@ -16,7 +18,9 @@ pub struct Editing<'a> {
 }
 
 /// The two parts as one.
-fn joined(alloc: Global, first: &[u8], second: &[u8]) -> Result<Vec<u8>, AllocError> {
+fn joined(alloc: Global, first: &[u8], second: &[u8]) -> Result<Vec<u8>, AllocError>
+    ensures { IfOk result (λ bytes. bytes.items ≡ first.now ++ second.now) }
+{
     let mut bytes = Vec::new(alloc);
     bytes.extend_from_slice(first)?;
     bytes.extend_from_slice(second)?;
@@ -24,11 +28,14 @@ fn joined(alloc: Global, first: &[u8], second: &[u8]) -> Result<Vec<u8>, AllocEr
 }
 
 impl Change<Global> for Editing<'_> {
-    ghost makes = { λ _ _ _. Unit {0} };
-
-    ghost refuses = { λ _ _ _. Unit {0} };
+    ghost use Rattle.jsonc_text.specs.OptionsOf.{parse_options};
+    ghost use Rattle.jsonc_program.specs.edit.Editing.{IsEditedFile, IsFileRefused};
 
     type Error = EditFault<Global>;
+
+    ghost makes = { λ c old new. IsEditedFile (parse_options c.options) c.edit old new };
+
+    ghost refuses = { λ c old fault. IsFileRefused (parse_options c.options) c.edit old fault };
 
     fn new_text(&mut self, old: &[u8]) -> Result<Option<Vec<u8>>, EditFault<Global>> {
         let (mark, rest) = split_mark(old);

@@ -1,5 +1,10 @@
 //! Why an edit was not made.
 
+ghost use Rattle.std.specs.Prelude.{◌≡◌, Some};
+ghost use Rattle.jsonc_engine.specs.Parser.{OutOfMemory};
+ghost use Rattle.jsonc_engine.specs.declared.fault.Fault.TheVariants as told;
+ghost use Rattle.jsonc_program.specs.edit.Lines.{edit_fault_line};
+
 use jsonc_engine::fault::Fault;
 use jsonc_parser::cst::EditError;
 use jsonc_parser::patch::PutError;
@@ -25,7 +30,10 @@ pub enum EditFault<A: Allocator> {
 
 impl<A: Allocator> EditFault<A> {
     /// The status that the program ends with: 3 where nothing is at the place, else 1.
-    pub fn status(&self) -> u8 {
+    pub fn status(&self) -> u8
+        ensures nothing { self.now ≡ EditFault.Engine told.NoSuchValue → result ≡ 3 }
+        ensures other { ¬ (self.now ≡ EditFault.Engine told.NoSuchValue) → result ≡ 1 }
+    {
         match self {
             EditFault::Engine(Fault::NoSuchValue) => 3,
             _ => 1,
@@ -34,6 +42,10 @@ impl<A: Allocator> EditFault<A> {
 }
 
 impl<A: Allocator> fmt::Display for EditFault<A> {
+    ghost output = { λ f. Some (edit_fault_line f) };
+
+    ghost styled_output = { λ f _. Some (edit_fault_line f) };
+
     fn fmt<W: fmt::Write>(&self, f: &mut fmt::Formatter<W>) -> fmt::Result {
         match self {
             EditFault::Engine(fault) => fault.fmt(f),
@@ -51,24 +63,32 @@ impl<A: Allocator> fmt::Display for EditFault<A> {
 impl<A: Allocator + fmt::Debug> Error for EditFault<A> {}
 
 impl<A: Allocator> From<Fault<A>> for EditFault<A> {
+    ghost from_gives = { λ fault given. given ≡ EditFault.Engine fault };
+
     fn from(fault: Fault<A>) -> EditFault<A> {
         EditFault::Engine(fault)
     }
 }
 
 impl<A: Allocator> From<EditError> for EditFault<A> {
+    ghost from_gives = { λ error given. given ≡ EditFault.Engine (told.Edit error) };
+
     fn from(error: EditError) -> EditFault<A> {
         EditFault::Engine(Fault::Edit(error))
     }
 }
 
 impl<A: Allocator> From<AllocError> for EditFault<A> {
+    ghost from_gives = { λ _ given. given ≡ EditFault.Engine (told.Edit OutOfMemory) };
+
     fn from(_error: AllocError) -> EditFault<A> {
         EditFault::from(EditError::OutOfMemory)
     }
 }
 
 impl<A: Allocator, T: Drop> From<AllocFailed<T>> for EditFault<A> {
+    ghost from_gives = { λ _ given. given ≡ EditFault.Engine (told.Edit OutOfMemory) };
+
     fn from(_error: AllocFailed<T>) -> EditFault<A> {
         EditFault::from(EditError::OutOfMemory)
     }

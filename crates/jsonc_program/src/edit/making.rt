@@ -1,5 +1,17 @@
 //! What tasks make of documents.
 
+ghost use Rattle.std.specs.Prelude.{◌≡◌, ◌∷◌, [], Bool, IfErr, IfOk, OnOk, Some, false, true};
+ghost use Rattle.jsonc_layout.specs.input.Views.{chars_of, plain};
+ghost use Rattle.jsonc_run.specs.promise.Asked.{EditsTheText};
+ghost use Rattle.jsonc_cst.specs.Document.{HasNode, tree_of};
+ghost use Rattle.jsonc_parser.specs.patch.Pointer.{tokens_of};
+ghost use Rattle.jsonc_engine.specs.declared.fault.Fault.TheVariants as told;
+ghost use Rattle.jsonc_program.specs.edit.Asked as asks;
+ghost use Rattle.jsonc_program.specs.edit.Asked.{Asked, asked_of};
+ghost use Rattle.jsonc_program.specs.edit.Faults.{FailsWhatShown, IsRefusedThere, needed};
+ghost use Rattle.jsonc_program.specs.edit.Making.{MakesWhatShown};
+ghost use Rattle.jsonc_program.specs.edit.Routes.{IsLedTo, LeadsOver, route_of};
+
 use crate::edit::fault::EditFault;
 use crate::edit::place::{Way, entry_of, path_to, value_at};
 use crate::edit::sort::{sort_inside, sort_object};
@@ -11,7 +23,9 @@ use jsonc_parser::patch::{Pointer, PutError, put};
 use std::alloc::Allocator;
 
 /// Nothing is there.
-fn nothing_there<A: Allocator>() -> EditFault<A> {
+fn nothing_there<A: Allocator>() -> EditFault<A>
+    ensures { result ≡ EditFault.Engine told.NoSuchValue }
+{
     EditFault::Engine(Fault::NoSuchValue)
 }
 
@@ -20,7 +34,10 @@ fn put_value<A: Allocator + Copy>(
     document: &mut CstRootNode<A>,
     pointer: &Pointer<A>,
     value: CstInputValue<A>,
-) -> Result<(), EditFault<A>> {
+) -> Result<(), EditFault<A>>
+    ensures made { OnOk result (MakesWhatShown (asks.put (tokens_of pointer.now) (plain value)) document.old document.new) }
+    ensures fails { IfErr result (FailsWhatShown (asks.put (tokens_of pointer.now) (plain value)) document.old) }
+{
     match put(document, pointer, value, Over::Keep) {
         Ok(()) => Ok(()),
         Err(PutError::Edit(error)) => Err(EditFault::from(error)),
@@ -32,7 +49,10 @@ fn put_value<A: Allocator + Copy>(
 fn make_one<A: Allocator + Copy>(
     document: &mut CstRootNode<A>,
     edit: Edit<A>,
-) -> Result<(), EditError> {
+) -> Result<(), EditError>
+    ensures made { OnOk result (EditsTheText (tree_of document.old) (edit ∷ []) (tree_of document.new)) }
+    ensures fails { IfErr result (IsRefusedThere document.old edit) }
+{
     let mut edits = Vec::new(*document.allocator());
     let Ok(()) = edits.push(edit) else {
         return Err(EditError::OutOfMemory);
@@ -47,7 +67,11 @@ fn make_one<A: Allocator + Copy>(
 fn path_there<A: Allocator + Copy>(
     document: &CstRootNode<A>,
     way: &Way<A>,
-) -> Result<Vec<usize, A>, EditFault<A>> {
+) -> Result<Vec<usize, A>, EditFault<A>>
+    ensures led { IfOk result (λ path. LeadsOver document.now (route_of way.now) path.items) }
+    ensures fails { (asked : Asked) → needed asked ≡ Some (route_of way.now)
+        → IfErr result (FailsWhatShown asked document.now) }
+{
     match path_to(document, way) {
         Ok(Some(path)) => Ok(path),
         Ok(None) => Err(nothing_there()),
@@ -60,7 +84,10 @@ fn replace<A: Allocator + Copy>(
     document: &mut CstRootNode<A>,
     way: &Way<A>,
     value: CstInputValue<A>,
-) -> Result<(), EditFault<A>> {
+) -> Result<(), EditFault<A>>
+    ensures made { OnOk result (MakesWhatShown (asks.replace (route_of way.now) (plain value)) document.old document.new) }
+    ensures fails { IfErr result (FailsWhatShown (asks.replace (route_of way.now) (plain value)) document.old) }
+{
     let path = path_there(document, way)?;
     match make_one(document, Edit::Replace(path, value)) {
         Ok(()) => Ok(()),
@@ -73,7 +100,10 @@ fn rename<A: Allocator + Copy>(
     document: &mut CstRootNode<A>,
     way: &Way<A>,
     name: String<A>,
-) -> Result<(), EditFault<A>> {
+) -> Result<(), EditFault<A>>
+    ensures made { OnOk result (MakesWhatShown (asks.rename (route_of way.now) (chars_of name)) document.old document.new) }
+    ensures fails { IfErr result (FailsWhatShown (asks.rename (route_of way.now) (chars_of name)) document.old) }
+{
     let path = path_there(document, way)?;
     match make_one(document, Edit::RenameProperty(path, name)) {
         Ok(()) => Ok(()),
@@ -88,7 +118,10 @@ fn comment<A: Allocator + Copy>(
     way: &Way<A>,
     place: cst::Place,
     text: String<A>,
-) -> Result<(), EditFault<A>> {
+) -> Result<(), EditFault<A>>
+    ensures made { OnOk result (MakesWhatShown (asks.comment (route_of way.now) place (chars_of text)) document.old document.new) }
+    ensures fails { IfErr result (FailsWhatShown (asks.comment (route_of way.now) place (chars_of text)) document.old) }
+{
     let path = path_there(document, way)?;
     match make_one(document, Edit::InsertComment(path, place, text)) {
         Ok(()) => Ok(()),
@@ -100,7 +133,12 @@ fn comment<A: Allocator + Copy>(
 fn value_there<A: Allocator + Copy>(
     document: &CstRootNode<A>,
     way: &Way<A>,
-) -> Result<CstNode, EditFault<A>> {
+) -> Result<CstNode, EditFault<A>>
+    ensures led { IfOk result (λ node. IsLedTo document.now (route_of way.now) (Some node)) }
+    ensures in_document { IfOk result (HasNode document.now) }
+    ensures fails { (asked : Asked) → needed asked ≡ Some (route_of way.now)
+        → IfErr result (FailsWhatShown asked document.now) }
+{
     match value_at(document, way) {
         Ok(Some(value)) => Ok(value),
         Ok(None) => Err(nothing_there()),
@@ -112,7 +150,10 @@ fn value_there<A: Allocator + Copy>(
 fn remove_alone<A: Allocator + Copy>(
     document: &mut CstRootNode<A>,
     way: &Way<A>,
-) -> Result<(), EditFault<A>> {
+) -> Result<(), EditFault<A>>
+    ensures made { (in_object : Bool) → OnOk result (MakesWhatShown (asks.remove (route_of way.now) in_object false true) document.old document.new) }
+    ensures fails { (in_object : Bool) → IfErr result (FailsWhatShown (asks.remove (route_of way.now) in_object false true) document.old) }
+{
     let path = path_there(document, way)?;
     match make_one(document, Edit::Remove(path)) {
         Ok(()) => Ok(()),
@@ -124,7 +165,10 @@ fn remove_alone<A: Allocator + Copy>(
 fn remove_with_comments<A: Allocator + Copy>(
     document: &mut CstRootNode<A>,
     way: &Way<A>,
-) -> Result<(), EditFault<A>> {
+) -> Result<(), EditFault<A>>
+    ensures made { (in_object : Bool) → OnOk result (MakesWhatShown (asks.remove (route_of way.now) in_object true true) document.old document.new) }
+    ensures fails { (in_object : Bool) → IfErr result (FailsWhatShown (asks.remove (route_of way.now) in_object true true) document.old) }
+{
     let value = value_there(document, way)?;
     let entry = entry_of(document, value);
     match entry.remove_with_comments(document) {
@@ -138,7 +182,10 @@ fn remove<A: Allocator + Copy>(
     document: &mut CstRootNode<A>,
     way: &Way<A>,
     with_comments: bool,
-) -> Result<(), EditFault<A>> {
+) -> Result<(), EditFault<A>>
+    ensures made { (in_object : Bool) → OnOk result (MakesWhatShown (asks.remove (route_of way.now) in_object with_comments true) document.old document.new) }
+    ensures fails { (in_object : Bool) → IfErr result (FailsWhatShown (asks.remove (route_of way.now) in_object with_comments true) document.old) }
+{
     if with_comments {
         remove_with_comments(document, way)
     } else {
@@ -152,7 +199,10 @@ fn remove_if_there<A: Allocator + Copy>(
     way: &Way<A>,
     with_comments: bool,
     must_exist: bool,
-) -> Result<(), EditFault<A>> {
+) -> Result<(), EditFault<A>>
+    ensures made { (in_object : Bool) → OnOk result (MakesWhatShown (asks.remove (route_of way.now) in_object with_comments must_exist) document.old document.new) }
+    ensures fails { (in_object : Bool) → IfErr result (FailsWhatShown (asks.remove (route_of way.now) in_object with_comments must_exist) document.old) }
+{
     match remove(document, way, with_comments) {
         Err(EditFault::Engine(Fault::NoSuchValue)) if !must_exist => Ok(()),
         removed => removed,
@@ -165,7 +215,10 @@ fn sort<A: Allocator + Copy>(
     way: &Way<A>,
     is_recursive: bool,
     keeps_headers: bool,
-) -> Result<(), EditFault<A>> {
+) -> Result<(), EditFault<A>>
+    ensures made { OnOk result (MakesWhatShown (asks.sort (route_of way.now) is_recursive keeps_headers) document.old document.new) }
+    ensures fails { IfErr result (FailsWhatShown (asks.sort (route_of way.now) is_recursive keeps_headers) document.old) }
+{
     let value = value_there(document, way)?;
     if is_recursive {
         return match sort_inside(document, value, keeps_headers) {
@@ -186,7 +239,10 @@ fn sort<A: Allocator + Copy>(
 pub(crate) fn make<A: Allocator + Copy>(
     document: &mut CstRootNode<A>,
     task: Task<A>,
-) -> Result<(), EditFault<A>> {
+) -> Result<(), EditFault<A>>
+    ensures made { OnOk result (MakesWhatShown (asked_of task) document.old document.new) }
+    ensures fails { IfErr result (FailsWhatShown (asked_of task) document.old) }
+{
     match task {
         Task::Put(pointer, value) => put_value(document, &pointer, value),
         Task::Replace(way, value) => replace(document, &way, value),

@@ -1,5 +1,14 @@
 //! Where words lead in a document.
 
+ghost use Rattle.std.specs.Prelude.{◌≡◌, IfErr, IfOk, IfSome, Some, [], option_map};
+ghost use Rattle.jsonc_edit.specs.Paths.{IsAt};
+ghost use Rattle.jsonc_run.specs.Places.{IsEntryAt};
+ghost use Rattle.jsonc_cst.specs.Document.{HasNode, nodes_of};
+ghost use Rattle.jsonc_cst.specs.Nodes.{number_of};
+ghost use Rattle.jsonc_parser.specs.patch.Found.{IsOfShown};
+ghost use Rattle.jsonc_parser.specs.patch.Pointer.{tokens_of};
+ghost use Rattle.jsonc_program.specs.edit.Routes.{IsLedOver, IsLedTo, entry_of, route_of, tokens as by_tokens, value_of_entry};
+
 use jsonc_parser::cst::{CstContainerNode, CstNode, CstRootNode, EditError, TypedNode};
 use jsonc_parser::patch::{Pointer, entry_at};
 use jsonc_parser::settings::find_at;
@@ -15,7 +24,11 @@ pub(crate) enum Way<A: Allocator> {
 }
 
 /// The value that an entry is, or has.
-fn value_of_entry<A: Allocator>(document: &CstRootNode<A>, entry: CstNode) -> Option<CstNode> {
+fn value_of_entry<A: Allocator>(document: &CstRootNode<A>, entry: CstNode) -> Option<CstNode>
+    requires { HasNode document.now entry }
+    ensures value { result ≡ value_of_entry document.now entry }
+    ensures in_document { IfSome result (HasNode document.now) }
+{
     match entry.as_object_prop() {
         Some(property) => property.value(document),
         None => Some(entry),
@@ -26,7 +39,11 @@ fn value_of_entry<A: Allocator>(document: &CstRootNode<A>, entry: CstNode) -> Op
 fn value_by_tokens<A: Allocator + Copy>(
     document: &CstRootNode<A>,
     pointer: &Pointer<A>,
-) -> Result<Option<CstNode>, EditError> {
+) -> Result<Option<CstNode>, EditError>
+    ensures led { IfOk result (IsLedTo document.now (by_tokens (tokens_of pointer.now))) }
+    ensures in_document { IfOk result (λ found. IfSome found (HasNode document.now)) }
+    ensures memory { IfErr result (λ e. e ≡ EditError.OutOfMemory) }
+{
     if pointer.tokens().is_empty() {
         return Ok(document.value());
     }
@@ -41,7 +58,11 @@ fn value_by_tokens<A: Allocator + Copy>(
 pub(crate) fn value_at<A: Allocator + Copy>(
     document: &CstRootNode<A>,
     way: &Way<A>,
-) -> Result<Option<CstNode>, EditError> {
+) -> Result<Option<CstNode>, EditError>
+    ensures led { IfOk result (IsLedTo document.now (route_of way.now)) }
+    ensures in_document { IfOk result (λ found. IfSome found (HasNode document.now)) }
+    ensures memory { IfErr result (λ e. e ≡ EditError.OutOfMemory) }
+{
     match way {
         Way::Tokens(pointer) => value_by_tokens(document, pointer),
         Way::Names(names) => find_at(document, names),
@@ -52,7 +73,10 @@ pub(crate) fn value_at<A: Allocator + Copy>(
 pub(crate) fn path_to<A: Allocator + Copy>(
     document: &CstRootNode<A>,
     way: &Way<A>,
-) -> Result<Option<Vec<usize, A>>, EditError> {
+) -> Result<Option<Vec<usize, A>>, EditError>
+    ensures led { IfOk result (λ found. IsLedOver document.now (route_of way.now) (option_map (λ path. path.items) found)) }
+    ensures memory { IfErr result (λ e. e ≡ EditError.OutOfMemory) }
+{
     match value_at(document, way) {
         Ok(Some(value)) => document.path(value),
         Ok(None) => Ok(None),
@@ -61,7 +85,11 @@ pub(crate) fn path_to<A: Allocator + Copy>(
 }
 
 /// The entry that a value is, or that has it.
-pub(crate) fn entry_of<A: Allocator>(document: &CstRootNode<A>, value: CstNode) -> CstNode {
+pub(crate) fn entry_of<A: Allocator>(document: &CstRootNode<A>, value: CstNode) -> CstNode
+    requires { HasNode document.now value }
+    ensures entry { result ≡ entry_of document.now value }
+    ensures in_document { HasNode document.now result }
+{
     match value.parent(document) {
         Some(CstContainerNode::ObjectProp(property)) => property.node(),
         _ => value,

@@ -1,5 +1,15 @@
 //! Properties that are sorted by their names as they are written.
 
+ghost use Rattle.std.specs.Prelude.{◌≡◌, IfErr, IfOk, OnOk};
+ghost use Rattle.std.specs.Cmp.Lexicographic.{slice_cmp};
+ghost use Rattle.std.specs.List.{All};
+ghost use Rattle.std.specs.Ordering.{nat_cmp};
+ghost use Rattle.jsonc_cst.specs.Document.{HasNode, nodes_of};
+ghost use Rattle.jsonc_cst.specs.Nodes.{object_node, object_prop_node};
+ghost use Rattle.jsonc_cst.specs.typed.Edits.{HandlesStay};
+ghost use Rattle.jsonc_engine.specs.Sorting.{written_name};
+ghost use Rattle.jsonc_program.specs.edit.Sorting.{HasSorted, SortsWhatShown};
+
 use jsonc_engine::written_name;
 use jsonc_parser::cst::{CstNode, CstObject, CstObjectProp, CstRootNode, EditError};
 use std::alloc::{AllocError, Allocator};
@@ -10,7 +20,12 @@ fn compare_names<A: Allocator>(
     document: &CstRootNode<A>,
     one: CstObjectProp,
     other: CstObjectProp,
-) -> Ordering {
+) -> Ordering
+    requires one { HasNode document.now (object_prop_node one) }
+    requires other { HasNode document.now (object_prop_node other) }
+    ensures { result ≡ slice_cmp nat_cmp (written_name (nodes_of document.now) one.number)
+        (written_name (nodes_of document.now) other.number) }
+{
     let name = written_name(document, one);
     name.cmp(&written_name(document, other))
 }
@@ -20,7 +35,12 @@ pub(crate) fn sort_object<A: Allocator + Copy>(
     document: &mut CstRootNode<A>,
     object: CstObject,
     keeps_headers: bool,
-) -> Result<(), EditError> {
+) -> Result<(), EditError>
+    requires { HasNode document.old (object_node object) }
+    ensures sorted { OnOk result (HasSorted (nodes_of document.old) (nodes_of document.new) object.number) }
+    ensures handles { HandlesStay document.old document.new }
+    ensures memory { IfErr result (λ e. e ≡ EditError.OutOfMemory) }
+{
     if keeps_headers {
         return object.sort_properties().keep_headers().by(
             document,
@@ -37,7 +57,10 @@ pub(crate) fn sort_object<A: Allocator + Copy>(
 fn objects_in<A: Allocator + Copy>(
     document: &CstRootNode<A>,
     value: CstNode,
-) -> Result<Vec<CstObject, A>, AllocError> {
+) -> Result<Vec<CstObject, A>, AllocError>
+    requires { HasNode document.now value }
+    ensures { IfOk result (λ objects. All (λ object. HasNode document.now (object_node object)) objects.items) }
+{
     let mut objects = Vec::new(*document.allocator());
     for node in document.descendants(value) {
         if let Some(object) = node.as_object() {
@@ -52,7 +75,11 @@ fn sort_objects<A: Allocator + Copy>(
     document: &mut CstRootNode<A>,
     objects: &[CstObject],
     keeps_headers: bool,
-) -> Result<(), EditError> {
+) -> Result<(), EditError>
+    requires { All (λ object. HasNode document.old (object_node object)) objects.now }
+    ensures sorted { OnOk result (SortsWhatShown document.old document.new) }
+    ensures memory { IfErr result (λ e. e ≡ EditError.OutOfMemory) }
+{
     for object in objects {
         match sort_object(document, *object, keeps_headers) {
             Ok(()) => {}
@@ -67,7 +94,11 @@ pub(crate) fn sort_inside<A: Allocator + Copy>(
     document: &mut CstRootNode<A>,
     value: CstNode,
     keeps_headers: bool,
-) -> Result<(), EditError> {
+) -> Result<(), EditError>
+    requires { HasNode document.old value }
+    ensures sorted { OnOk result (SortsWhatShown document.old document.new) }
+    ensures memory { IfErr result (λ e. e ≡ EditError.OutOfMemory) }
+{
     let Ok(objects) = objects_in(document, value) else {
         return Err(EditError::OutOfMemory);
     };

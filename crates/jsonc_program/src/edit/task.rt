@@ -1,14 +1,19 @@
 //! What an edit asks for, once its words are read.
 
+ghost use Rattle.std.specs.Prelude.{◌≡◌, IfErr, IfOk, chars};
+ghost use Rattle.jsonc_text.specs.OptionsOf.{parse_options};
+ghost use Rattle.jsonc_program.specs.edit.Asked.{MayBeWritten, asked_of};
+ghost use Rattle.jsonc_program.specs.edit.Faults.{IsFaultOfWords};
+ghost use Rattle.jsonc_program.specs.edit.Words.{IsAskedBy, side};
+
 use crate::edit::comment::comment_of;
 use crate::edit::fault::EditFault;
 use crate::edit::place::Way;
 use crate::edit::words::{pointer_of, value_of, way_of, way_to};
 use jsonc_engine::command::Place;
-use jsonc_parser::ParseOptions;
-use jsonc_parser::cst;
 use jsonc_parser::cst::CstInputValue;
 use jsonc_parser::patch::Pointer;
+use jsonc_parser::{ParseOptions, cst};
 use std::alloc::Allocator;
 
 /// What an edit is of.
@@ -26,9 +31,15 @@ pub enum Edit<'a> {
     /// Puts the value of a JSON text where a JSON Pointer leads: what is there is replaced, a member that is missing is
     /// appended to its object, and behind the last element, or at `-`, one is appended to its array. A value of another
     /// kind on the way stays, and is a fault.
-    Put { pointer: &'a str, json: &'a str },
+    Put {
+        pointer: &'a str,
+        json: &'a str,
+    },
     /// Replaces what is there by the value of a JSON text.
-    Replace { target: Target<'a>, json: &'a str },
+    Replace {
+        target: Target<'a>,
+        json: &'a str,
+    },
     /// Removes what is there, with the comments that belong to it or without. Where nothing is there and nothing has to
     /// be, the document stays as it is.
     Remove {
@@ -37,7 +48,10 @@ pub enum Edit<'a> {
         must_exist: bool,
     },
     /// Gives the property at a place another name.
-    Rename { place: Place<'a>, name: &'a str },
+    Rename {
+        place: Place<'a>,
+        name: &'a str,
+    },
     /// Inserts a comment above the entry at a place, or after it on its line. The text is a comment, or what one says.
     Comment {
         place: Place<'a>,
@@ -76,7 +90,9 @@ pub(crate) enum Task<A: Allocator> {
 }
 
 /// Where a comment comes.
-fn side(is_after: bool) -> cst::Place {
+fn side(is_after: bool) -> cst::Place
+    ensures { result ≡ side is_after }
+{
     if is_after {
         cst::Place::After
     } else {
@@ -91,7 +107,13 @@ fn comment_task<A: Allocator + Copy>(
     place: Place<'_>,
     text: &str,
     is_after: bool,
-) -> Result<Task<A>, EditFault<A>> {
+) -> Result<Task<A>, EditFault<A>>
+    ensures asked { IfOk result
+        (λ task. IsAskedBy (parse_options options.now) (Edit.Comment place.entry text.entry is_after) (asked_of task)) }
+    ensures allowed { IfOk result (λ task. MayBeWritten (parse_options options.now) (asked_of task)) }
+    ensures refused { IfErr result
+        (IsFaultOfWords (parse_options options.now) (Edit.Comment place.entry text.entry is_after)) }
+{
     if !options.allow_comments {
         return Err(EditFault::NoComments);
     }
@@ -105,7 +127,11 @@ pub(crate) fn task_of<A: Allocator + Copy>(
     alloc: A,
     options: &ParseOptions,
     edit: Edit<'_>,
-) -> Result<Task<A>, EditFault<A>> {
+) -> Result<Task<A>, EditFault<A>>
+    ensures asked { IfOk result (λ task. IsAskedBy (parse_options options.now) edit.entry (asked_of task)) }
+    ensures allowed { IfOk result (λ task. MayBeWritten (parse_options options.now) (asked_of task)) }
+    ensures refused { IfErr result (IsFaultOfWords (parse_options options.now) edit.entry) }
+{
     match edit {
         Edit::Put { pointer, json } => {
             let pointer = pointer_of(alloc, pointer)?;
