@@ -5,4 +5,5 @@ pub mod Lines
 pub mod Mark
 pub mod Place
 pub mod Replacing
+pub mod Values
 pub mod edit

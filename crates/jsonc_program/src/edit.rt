@@ -19,16 +19,16 @@ mod comment;
 pub mod editing;
 mod fault;
 mod making;
-mod place;
+pub(crate) mod place;
 mod sort;
 mod task;
-mod words;
+pub(crate) mod words;
 
 pub use fault::EditFault;
 pub use task::{Edit, Target};
 
 /// The document of an input.
-fn document_of<A: Allocator + Copy>(
+pub(crate) fn document_of<A: Allocator + Copy>(
     alloc: A,
     options: &ParseOptions,
     input: &[u8],
