@@ -15,10 +15,6 @@ json_string text = encode_utf8_all (spelled (chars text))
 abbrev pub shown_name : List ℕ → List ℕ
 shown_name name = if list_any is_control (chars name) then json_string name else name
 
--- a place in standard input
-abbrev pub on_place : ℕ → ℕ → List ℕ
-on_place line column = codes " on line " ++ (decimal line ++ (codes " column " ++ decimal column))
-
 module _ {A : Type 0} where
   -- the line of a finding in a file
   abbrev pub file_line : List ℕ → Finding A → List ℕ
@@ -26,14 +22,20 @@ module _ {A : Type 0} where
 
   -- the line of a finding in standard input
   abbrev pub input_line : Finding A → List ℕ
-  input_line finding = told finding.kind ++ (on_place finding.line finding.column ++ told_behind finding.kind)
+  input_line finding
+      = told finding.kind ++ (codes " on line " ++ (decimal finding.line ++ (codes " column " ++ (decimal finding.column ++ told_behind finding.kind))))
+
+  -- the place of a finding, as members of an object of JSON: its line, its column, and its bytes in the text
+  abbrev pub json_place : Finding A → List ℕ
+  json_place finding
+      = codes "\"line\":" ++ (decimal finding.line ++ (codes ",\"column\":" ++ (decimal finding.column
+      ++ (codes ",\"start\":" ++ (decimal finding.range.start ++ (codes ",\"end\":" ++ decimal finding.range.end))))))
 
   -- an object of JSON on one line
   abbrev pub json_line : List ℕ → Finding A → List ℕ
   json_line file finding
-      = codes "{\"file\":" ++ (json_string file ++ (codes ",\"line\":" ++ (decimal finding.line ++ (codes ",\"column\":" ++ (decimal finding.column
-      ++ (codes ",\"start\":" ++ (decimal finding.range.start ++ (codes ",\"end\":" ++ (decimal finding.range.end
-      ++ (codes ",\"kind\":\"" ++ (kind_name finding.kind ++ (codes "\",\"message\":" ++ (json_string (message finding.kind) ++ codes "}")))))))))))))
+      = codes "{\"file\":" ++ (json_string file ++ (codes "," ++ (json_place finding
+      ++ (codes ",\"kind\":\"" ++ (kind_name finding.kind ++ (codes "\",\"message\":" ++ (json_string (message finding.kind) ++ codes "}")))))))
 
   -- an array of JSON: these objects in their order, each on a line
   abbrev pub json_array : List (String A) → List ℕ

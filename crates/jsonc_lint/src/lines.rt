@@ -1,20 +1,42 @@
 //! Lines that tell what is found in a file or in standard input, and the same as JSON.
 
-ghost use Rattle.std.specs.Prelude.{◌≡◌, IfOk, string_bytes};
-ghost use Rattle.jsonc_lint.specs.Lines.{file_line, input_line, json_array, json_line, shown_name};
+ghost use Rattle.std.specs.Prelude.{◌≡◌, IfOk, chars, string_bytes};
+ghost use Rattle.std.specs.Char.{is_control};
+ghost use Rattle.std.specs.List.{list_any};
+ghost use Rattle.jsonc_lint.specs.Lines.{file_line, input_line, json_array, json_line, json_place, shown_name};
 
 use crate::finding::{Finding, FindingKind};
 use jsonc_layout::input::spelling::spell;
 use std::alloc::{AllocError, Allocator};
 
+// Whether a control character is in a text.
+fn has_control(text: &str) -> bool
+    ensures { result ≡ list_any is_control (chars text.now) }
+{
+    text.chars().any(|c| c.is_control())
+}
+
 /// The name of a file as lines show it: as it is, or, where it has a control character, as a string of JSON.
 pub fn shown_name<A: Allocator>(alloc: A, name: &str) -> Result<String<A>, AllocError>
     ensures { IfOk result (λ s. string_bytes s ≡ shown_name name.now) }
 {
-    if name.chars().any(|c| c.is_control()) {
+    if has_control(name) {
         return spell(alloc, name);
     }
     String::from_str(alloc, name)
+}
+
+// The place of a finding, as members of an object of JSON.
+fn json_place<A: Allocator, B: Allocator>(
+    alloc: B,
+    finding: &Finding<A>,
+) -> Result<String<B>, AllocError>
+    ensures { IfOk result (λ s. string_bytes s ≡ json_place finding.now) }
+{
+    format!(in alloc;
+        "\"line\":{},\"column\":{},\"start\":{},\"end\":{}",
+        finding.line, finding.column, finding.range.start, finding.range.end
+    )
 }
 
 impl<A: Allocator> Finding<A> {
@@ -56,12 +78,9 @@ impl<A: Allocator> Finding<A> {
     {
         let message = format!(in alloc; "{self}")?;
         format!(in alloc;
-            "{{\"file\":{},\"line\":{},\"column\":{},\"start\":{},\"end\":{},\"kind\":\"{}\",\"message\":{}}}",
+            "{{\"file\":{},{},\"kind\":\"{}\",\"message\":{}}}",
             spell(alloc, file)?,
-            self.line,
-            self.column,
-            self.range.start,
-            self.range.end,
+            json_place(alloc, self)?,
             self.kind.name(),
             spell(alloc, message.as_str())?
         )

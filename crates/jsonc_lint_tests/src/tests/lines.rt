@@ -7,7 +7,8 @@ use std::alloc::{AllocError, Allocator};
 use std::fmt::Write;
 use std::test::Fail;
 
-/// What a text of findings is printed as.
+/// What the findings of a text are printed as.
+#[derive(Clone, Copy, Debug, PartialEq, Eq, Drop)]
 pub enum Form {
     /// The lines of a file.
     File,
@@ -32,7 +33,7 @@ const JSON: &str =
 fn printed<A: Allocator + Copy>(
     heap: A,
     findings: &Findings<A>,
-    form: &Form,
+    form: Form,
 ) -> Result<String<A>, AllocError> {
     let mut lines = String::new(heap);
     let mut objects = Vec::new(heap);
@@ -53,7 +54,7 @@ fn printed<A: Allocator + Copy>(
 fn are_printed<A: Allocator + Copy>(
     heap: A,
     text: &str,
-    form: &Form,
+    form: Form,
     lines: &str,
 ) -> Result<bool, AllocError> {
     let rules = Rules {
@@ -64,7 +65,7 @@ fn are_printed<A: Allocator + Copy>(
 }
 
 /// What came of printing findings in a form.
-pub fn outcome_of_lines<A: Allocator + Copy>(heap: A, form: &Form) -> Outcome {
+pub fn outcome_of_lines<A: Allocator + Copy>(heap: A, form: Form) -> Outcome {
     let lines = match form {
         Form::File => FILE,
         Form::Input => INPUT,
@@ -78,15 +79,15 @@ pub fn outcome_of_lines<A: Allocator + Copy>(heap: A, form: &Form) -> Outcome {
 
 #[test]
 fn findings_are_lines(rt: HostRuntime) -> Result<(), Fail> {
-    assert!(rt; outcome_of_lines(rt.alloc(), &Form::File) == Outcome::Answered);
-    assert!(rt; outcome_of_lines(rt.alloc(), &Form::Input) == Outcome::Answered);
+    assert!(rt; outcome_of_lines(rt.alloc(), Form::File) == Outcome::Answered);
+    assert!(rt; outcome_of_lines(rt.alloc(), Form::Input) == Outcome::Answered);
     Ok(())
 }
 
 #[test]
 fn findings_are_objects_of_json(rt: HostRuntime) -> Result<(), Fail> {
-    assert!(rt; outcome_of_lines(rt.alloc(), &Form::Json) == Outcome::Answered);
-    assert!(rt; are_printed(rt.alloc(), "{}", &Form::Json, "[]\n") == Ok(true));
+    assert!(rt; outcome_of_lines(rt.alloc(), Form::Json) == Outcome::Answered);
+    assert!(rt; are_printed(rt.alloc(), "{}", Form::Json, "[]\n") == Ok(true));
     Ok(())
 }
 

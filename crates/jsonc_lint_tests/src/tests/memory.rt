@@ -29,7 +29,7 @@ fn each_request_is_refused_in_turn(rt: HostRuntime) -> Result<(), Fail> {
 #[test]
 fn each_request_of_lines_is_refused_in_turn(rt: HostRuntime) -> Result<(), Fail> {
     for form in [Form::File, Form::Input, Form::Json] {
-        assert!(rt; is_refused_in_turn(rt.alloc(), |heap| outcome_of_lines(heap, &form)));
+        assert!(rt; is_refused_in_turn(rt.alloc(), |heap| outcome_of_lines(heap, form)));
     }
     Ok(())
 }
