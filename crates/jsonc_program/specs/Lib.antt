@@ -4,6 +4,7 @@ pub mod Jobs
 pub mod Lines
 pub mod Mark
 pub mod Place
+pub mod Raw
 pub mod Replacing
 pub mod Values
 pub mod edit

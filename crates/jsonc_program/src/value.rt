@@ -1,7 +1,8 @@
 //! The value at a place.
-ghost use Rattle.std.specs.Prelude.{IfErr, IfOk, string_bytes};
+ghost use Rattle.std.specs.Prelude.{IfErr, IfOk, Some, string_bytes};
 ghost use Rattle.jsonc_text.specs.OptionsOf.{parse_options};
-ghost use Rattle.jsonc_program.specs.Values.{IsNotPointed, IsPointed};
+ghost use Rattle.jsonc_engine.specs.Change.{IsGot};
+ghost use Rattle.jsonc_program.specs.Values.{IsNotPointed, IsPointed, IsValueText};
 
 use crate::edit::place::{Way, value_at};
 use crate::edit::words::pointer_of;
@@ -42,7 +43,9 @@ fn named(
     options: &ParseOptions,
     names: &str,
     input: &[u8],
-) -> Result<String, EditFault<Global>> {
+) -> Result<String, EditFault<Global>>
+    ensures { IfOk result (λ text. IsGot (parse_options options.now) names.now input.now (string_bytes text)) }
+{
     let place = Place::Names(names);
     match run_with(alloc, options, Command::Get { place }, input) {
         Ok(Some(text)) => Ok(text),
@@ -58,7 +61,9 @@ pub fn value_text(
     place: Place<'_>,
     is_raw: bool,
     input: &[u8],
-) -> Result<String, EditFault<Global>> {
+) -> Result<String, EditFault<Global>>
+    ensures { IfOk result (λ text. IsValueText (parse_options options.now) place.entry is_raw input.now (string_bytes text)) }
+{
     let written = match place {
         Place::Names(names) => named(alloc, options, names, input)?,
         Place::Pointer(pointer) => pointed(alloc, options, pointer, input)?,

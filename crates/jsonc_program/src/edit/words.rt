@@ -58,7 +58,7 @@ pub(crate) fn value_of<A: Allocator + Copy>(
 }
 
 /// The text of a value that is a string.
-fn text_of<'b, A: Allocator>(value: &'b Value<'_, A>) -> Option<&'b str>
+pub(crate) fn text_of<'b, A: Allocator>(value: &'b Value<'_, A>) -> Option<&'b str>
     ensures { option_map (λ s. chars s.now) result ≡ text_in (ast.plain value.now) }
 {
     match value {
