@@ -1,1 +1,3 @@
+pub mod FaultLines
+pub mod RawStrings
 pub mod Values
