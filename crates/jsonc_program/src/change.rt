@@ -1,13 +1,11 @@
 //! A command as a change of a file's text.
-ghost use Rattle.std.specs.Prelude.{◌≡◌, ◌++◌, IfOk};
-
-use crate::mark::split_mark;
+use crate::mark::{joined, split_mark};
 use jsonc_engine::command::Command;
 use jsonc_engine::engine::run_with;
 use jsonc_engine::fault::Fault;
 use jsonc_files::Change;
 use jsonc_parser::ParseOptions;
-use std::alloc::{AllocError, Global};
+use std::alloc::Global;
 
 /// A command under options, as a change of a text: a byte order mark stays, and what follows it becomes what the
 /// command writes.
@@ -16,16 +14,6 @@ pub struct Replacing<'a> {
     pub alloc: Global,
     pub options: ParseOptions,
     pub command: Command<'a>,
-}
-
-/// The two parts as one.
-fn joined(alloc: Global, first: &[u8], second: &[u8]) -> Result<Vec<u8>, AllocError>
-    ensures { IfOk result (λ bytes. bytes.items ≡ first.now ++ second.now) }
-{
-    let mut bytes = Vec::new(alloc);
-    bytes.extend_from_slice(first)?;
-    bytes.extend_from_slice(second)?;
-    Ok(bytes)
 }
 
 impl Change<Global> for Replacing<'_> {

@@ -1,6 +1,8 @@
 //! The byte order mark of UTF-8, which the program passes over and keeps.
-ghost use Rattle.std.specs.Prelude.{◌≡◌, drop, take};
+ghost use Rattle.std.specs.Prelude.{◌≡◌, ◌++◌, IfOk, drop, take};
 ghost use Rattle.jsonc_program.specs.Mark.{mark_length};
+
+use std::alloc::{AllocError, Global};
 
 /// How many bytes the byte order mark at the front has: 3, or 0 where there is none.
 fn mark_len(bytes: &[u8]) -> usize
@@ -19,4 +21,14 @@ pub fn split_mark(bytes: &[u8]) -> (&[u8], &[u8])
 {
     let len = mark_len(bytes);
     (&bytes[..len], &bytes[len..])
+}
+
+/// The two parts as one.
+pub(crate) fn joined(alloc: Global, first: &[u8], second: &[u8]) -> Result<Vec<u8>, AllocError>
+    ensures { IfOk result (λ bytes. bytes.items ≡ first.now ++ second.now) }
+{
+    let mut bytes = Vec::new(alloc);
+    bytes.extend_from_slice(first)?;
+    bytes.extend_from_slice(second)?;
+    Ok(bytes)
 }

@@ -1,12 +1,10 @@
 //! An edit as a change of a file's text.
 
-ghost use Rattle.std.specs.Prelude.{◌≡◌, ◌++◌, IfOk};
-
 use crate::edit::{Edit, EditFault, edited};
-use crate::mark::split_mark;
+use crate::mark::{joined, split_mark};
 use jsonc_files::Change;
 use jsonc_parser::ParseOptions;
-use std::alloc::{AllocError, Global};
+use std::alloc::Global;
 
 /// An edit under options, as a change of a text: a byte order mark stays, and what follows it becomes the document's text
 /// after the edit.
@@ -15,16 +13,6 @@ pub struct Editing<'a> {
     pub alloc: Global,
     pub options: ParseOptions,
     pub edit: Edit<'a>,
-}
-
-/// The two parts as one.
-fn joined(alloc: Global, first: &[u8], second: &[u8]) -> Result<Vec<u8>, AllocError>
-    ensures { IfOk result (λ bytes. bytes.items ≡ first.now ++ second.now) }
-{
-    let mut bytes = Vec::new(alloc);
-    bytes.extend_from_slice(first)?;
-    bytes.extend_from_slice(second)?;
-    Ok(bytes)
 }
 
 impl Change<Global> for Editing<'_> {
