@@ -1,6 +1,6 @@
 //! What a call asks for.
 ghost use Rattle.std.specs.Borrow.{Bor};
-ghost use Rattle.std.specs.Prelude.{◌≡◌, ℕ, Bool, List, Option, IfErr, IfOk};
+ghost use Rattle.std.specs.Prelude.{◌≡◌, ℕ, Bool, List, Option, IfErr, IfOk, MatchOption};
 ghost use Rattle.jsonc_words.specs.declared.call.Command.TheVariants as called;
 ghost use Rattle.jsonc_words.specs.declared.call.Text.{Text};
 ghost use Rattle.jsonc_words.specs.declared.call.Value.{Value};
@@ -52,6 +52,46 @@ fn place<'a>(word: &'a str) -> Result<Place<'a>, NotAPlace<'a>>
         Some(place) => Ok(place),
         None => Err(NotAPlace { word }),
     }
+}
+
+/// The place that an option names, where it is given.
+fn place_if<'a>(word: Option<&'a str>) -> Result<Option<Place<'a>>, NotAPlace<'a>>
+    ensures named { IfOk result (IsPlaceOf word.entry) }
+    ensures refused { IfErr result (λ fault. MatchOption word.entry ⊥ (λ w. fault.word.now ≡ w.now)
+        × IsNoPlace fault.word.now) }
+{
+    match word {
+        None => Ok(None),
+        Some(word) => match place_of(word) {
+            Some(place) => Ok(Some(place)),
+            None => Err(NotAPlace { word }),
+        },
+    }
+}
+
+fn get_job<'a>(place: Place<'a>, is_raw: bool) -> Job<'a>
+    ensures { (word : Bor (List ℕ)) (must : Bool) (text : List ℕ) → IsPlace word.now place.entry
+        → IsJobOf (called.Get word is_raw) must text result }
+{
+    Job::Get { place, is_raw }
+}
+
+fn rename_job<'a>(place: Place<'a>, name: &'a str) -> Job<'a>
+    ensures { (word : Bor (List ℕ)) (must : Bool) (text : List ℕ) → IsPlace word.now place.entry
+        → IsJobOf (called.Rename word name.entry) must text result }
+{
+    Job::Edit(Edit::Rename { place, name })
+}
+
+fn comment_job<'a>(place: Place<'a>, text: &'a str, is_after: bool) -> Job<'a>
+    ensures { (word : Bor (List ℕ)) (source : Text) (must : Bool) → IsPlace word.now place.entry
+        → IsJobOf (called.Comment word source is_after) must text.now result }
+{
+    Job::Edit(Edit::Comment {
+        place,
+        text,
+        is_after,
+    })
 }
 
 fn set_job<'a>(name: &'a str, json: &'a str, must_exist: bool) -> Job<'a>
@@ -159,37 +199,22 @@ pub fn job_of<'a>(
             with_comments,
         } => remove_job(name, with_comments, must_exist),
         call::Command::Sort {
-            at: None,
+            at,
             is_recursive,
             keeps_headers,
-        } => sort_job(None, is_recursive, keeps_headers),
-        call::Command::Sort {
-            at: Some(at),
-            is_recursive,
-            keeps_headers,
-        } => sort_job(Some(place(at)?), is_recursive, keeps_headers),
+        } => sort_job(place_if(at)?, is_recursive, keeps_headers),
         call::Command::Drop {
             place: at,
             with_comments,
         } => drop_job(place(at)?, with_comments, must_exist),
-        call::Command::Get { place: at, is_raw } => Job::Get {
-            place: place(at)?,
-            is_raw,
-        },
+        call::Command::Get { place: at, is_raw } => get_job(place(at)?, is_raw),
         call::Command::Put { place: at, .. } => put_job(place(at)?, text, must_exist),
-        call::Command::Rename { place: at, name } => {
-            let place = place(at)?;
-            Job::Edit(Edit::Rename { place, name })
-        }
+        call::Command::Rename { place: at, name } => rename_job(place(at)?, name),
         call::Command::Comment {
             place: at,
             is_after,
             ..
-        } => Job::Edit(Edit::Comment {
-            place: place(at)?,
-            text,
-            is_after,
-        }),
+        } => comment_job(place(at)?, text, is_after),
         call::Command::Patch { most_bytes, .. } => patch_job(text, most_bytes),
         call::Command::Merge { .. } => Job::Run(Command::Merge { text }),
         call::Command::Json => Job::Run(Command::Json),
