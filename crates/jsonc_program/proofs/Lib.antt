@@ -1,3 +1,11 @@
-pub mod FaultLines
-pub mod RawStrings
-pub mod Values
+mod EditValues
+mod EditNames
+mod EditObjects
+mod EditRoutes
+mod EditShown
+mod EditMade
+mod EditSorts
+mod EditMakes
+mod FaultLines
+mod RawStrings
+mod Values
