@@ -20,6 +20,7 @@ use jsonc_program::job::{Job, job_of};
 use jsonc_program::mark::split_mark;
 use jsonc_program::operation::told_of_patch;
 use jsonc_program::value::value_text;
+use jsonc_program::way::told_of_way;
 use jsonc_words::call::{Call, Input, Text};
 use std::alloc::Global;
 
@@ -77,6 +78,19 @@ fn tell_operation(
     }
 }
 
+/// Tells of a value in the way of a path of names.
+fn tell_way(work: &Work<'_>, input: Input<'_>, fault: &EditFault<Global>, bytes: &[u8]) {
+    let Job::Run(Command::Put { names, .. }) = work.job else {
+        tell_fault(work.rt, input, fault);
+        return;
+    };
+    let (_, rest) = split_mark(bytes);
+    match told_of_way(work.rt.alloc(), &work.options, names, rest) {
+        Ok(Some(told)) => tell_cause(work.rt, input, told.as_str()),
+        _ => tell_fault(work.rt, input, fault),
+    }
+}
+
 /// Tells of a fault in the text of an input, of which these are the bytes.
 fn tell_of_input(work: &Work<'_>, input: Input<'_>, fault: &EditFault<Global>, bytes: &[u8]) {
     match fault {
@@ -84,6 +98,7 @@ fn tell_of_input(work: &Work<'_>, input: Input<'_>, fault: &EditFault<Global>, b
             let (_, rest) = split_mark(bytes);
             tell_not_utf8(work.rt, input, rest);
         }
+        EditFault::Engine(Fault::OnTheWay) => tell_way(work, input, fault, bytes),
         EditFault::Engine(of_engine) => tell_operation(work, input, fault, of_engine, bytes),
         _ => tell_fault(work.rt, input, fault),
     }

@@ -13,3 +13,4 @@ pub mod operation;
 pub mod place;
 mod raw;
 pub mod value;
+pub mod way;
