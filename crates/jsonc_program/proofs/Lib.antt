@@ -1,3 +1,4 @@
+mod Changes
 mod EditValues
 mod EditNames
 mod EditObjects

@@ -34,7 +34,7 @@ pub fn is_string(command: Command<'_>) -> bool
 
 /// The text of an argument as a command takes it: JSON, where it is the string itself.
 pub fn argument_of(alloc: Global, command: Command<'_>, text: String) -> Result<String, AllocError>
-    ensures { IfOk result (λ taken. string_bytes taken ≡ argument_of command.entry (string_bytes text.entry)) }
+    ensures { IfOk result (λ taken. string_bytes taken ≡ argument_of command.entry (string_bytes text)) }
 {
     if is_string(command) {
         spell(alloc, text.as_str())

@@ -17,6 +17,7 @@ pub struct Replacing<'a> {
 }
 
 impl Change<Global> for Replacing<'_> {
+    ghost use Rattle.std.specs.declared.alloc.Global.{Global};
     ghost use Rattle.jsonc_text.specs.OptionsOf.{parse_options};
     ghost use Rattle.jsonc_engine.specs.Command.{request_of};
     ghost use Rattle.jsonc_program.specs.Replacing.{IsRefused, IsReplaced};

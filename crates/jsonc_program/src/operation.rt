@@ -131,26 +131,33 @@ fn found(
     }
 }
 
-/// The operation of this number of a patch, as it is shown, and of a test what it finds.
+/// An operation of a patch, as it is shown, and of a test the value that it found.
+#[derive(Drop)]
+struct Description {
+    operation: String,
+    value: Option<String>,
+}
+
+/// The operation of this number of a patch.
 fn described(
     alloc: Global,
     options: &ParseOptions,
     patch: &str,
     number: usize,
     input: &[u8],
-) -> Result<Option<(String, Option<String>)>, AllocError> {
+) -> Result<Option<Description>, AllocError> {
     let Ok(read) = Patch::from_json(alloc, patch, options) else {
         return Ok(None);
     };
     let Some(operation) = read.operations().get(number) else {
         return Ok(None);
     };
-    let name = shown_operation(alloc, operation)?;
     let value = match operation {
         Operation::Test(pointer, _) => found(alloc, options, patch, number, pointer, input)?,
         _ => None,
     };
-    Ok(Some((name, value)))
+    let operation = shown_operation(alloc, operation)?;
+    Ok(Some(Description { operation, value }))
 }
 
 /// What is told of an operation of a patch that was not made for this cause: its number, its name and its pointers, the
@@ -163,14 +170,15 @@ fn told_of(
     number: usize,
     cause: &str,
 ) -> Result<Option<String>, AllocError> {
-    match described(alloc, options, patch, number, input)? {
-        Some((name, Some(value))) => {
-            let line = format!(in alloc; "Operation {number}: {name}: {cause}: {value}")?;
-            Ok(Some(line))
-        }
-        Some((name, None)) => Ok(Some(format!(in alloc; "Operation {number}: {name}: {cause}")?)),
-        None => Ok(None),
-    }
+    let Some(description) = described(alloc, options, patch, number, input)? else {
+        return Ok(None);
+    };
+    let operation = description.operation.as_str();
+    let line = match &description.value {
+        Some(value) => format!(in alloc; "Operation {number}: {operation}: {cause}: {value}")?,
+        None => format!(in alloc; "Operation {number}: {operation}: {cause}")?,
+    };
+    Ok(Some(line))
 }
 
 /// What is told of a patch that was refused by a document for this fault, if that is of an operation.

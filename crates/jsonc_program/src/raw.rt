@@ -39,7 +39,7 @@ pub(crate) fn raw(
     options: &ParseOptions,
     written: String,
 ) -> Result<String, AllocError>
-    ensures { IfOk result (λ text. IsRaw (parse_options options.now) (string_bytes written.entry) (string_bytes text)) }
+    ensures { IfOk result (λ text. IsRaw (parse_options options.now) (string_bytes written) (string_bytes text)) }
 {
     match decoded(alloc, options, written.as_str())? {
         Some(line) => Ok(line),
