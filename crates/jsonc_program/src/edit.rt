@@ -69,8 +69,8 @@ pub fn edited<A: Allocator + Copy>(
     edit: Edit<'_>,
     input: &[u8],
 ) -> Result<String<A>, EditFault<A>>
-    ensures edited { IfOk result (λ text. IsEdited (parse_options options.now) edit input.now (string_bytes text)) }
-    ensures refused { IfErr result (IsCause (parse_options options.now) edit input.now) }
+    ensures edited { IfOk result (λ text. IsEdited (parse_options options.now) edit.entry input.now (string_bytes text)) }
+    ensures refused { IfErr result (IsCause (parse_options options.now) edit.entry input.now) }
 {
     let task = task_of(alloc, options, edit)?;
     let mut document = document_of(alloc, options, input)?;

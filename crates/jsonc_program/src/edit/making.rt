@@ -1,6 +1,6 @@
 //! What tasks make of documents.
 
-ghost use Rattle.std.specs.Prelude.{◌≡◌, ◌∷◌, [], Bool, IfErr, IfOk, OnOk, Some, false, true};
+ghost use Rattle.std.specs.Prelude.{◌≡◌, ◌∷◌, [], Bool, IfErr, IfOk, IsErrOf, OnOk, Some, false, true};
 ghost use Rattle.jsonc_layout.specs.input.Views.{chars_of, plain};
 ghost use Rattle.jsonc_run.specs.promise.Asked.{EditsTheText};
 ghost use Rattle.jsonc_cst.specs.Document.{HasNode, tree_of};
@@ -153,6 +153,7 @@ fn remove_alone<A: Allocator + Copy>(
 ) -> Result<(), EditFault<A>>
     ensures made { (in_object : Bool) → OnOk result (MakesWhatShown (asks.remove (route_of way.now) in_object false true) document.old document.new) }
     ensures fails { (in_object : Bool) → IfErr result (FailsWhatShown (asks.remove (route_of way.now) in_object false true) document.old) }
+    ensures stays { IsErrOf result (EditFault.Engine told.NoSuchValue) → document.new ≡ document.old }
 {
     let path = path_there(document, way)?;
     match make_one(document, Edit::Remove(path)) {
@@ -168,6 +169,7 @@ fn remove_with_comments<A: Allocator + Copy>(
 ) -> Result<(), EditFault<A>>
     ensures made { (in_object : Bool) → OnOk result (MakesWhatShown (asks.remove (route_of way.now) in_object true true) document.old document.new) }
     ensures fails { (in_object : Bool) → IfErr result (FailsWhatShown (asks.remove (route_of way.now) in_object true true) document.old) }
+    ensures stays { IsErrOf result (EditFault.Engine told.NoSuchValue) → document.new ≡ document.old }
 {
     let value = value_there(document, way)?;
     let entry = entry_of(document, value);
@@ -185,6 +187,7 @@ fn remove<A: Allocator + Copy>(
 ) -> Result<(), EditFault<A>>
     ensures made { (in_object : Bool) → OnOk result (MakesWhatShown (asks.remove (route_of way.now) in_object with_comments true) document.old document.new) }
     ensures fails { (in_object : Bool) → IfErr result (FailsWhatShown (asks.remove (route_of way.now) in_object with_comments true) document.old) }
+    ensures stays { IsErrOf result (EditFault.Engine told.NoSuchValue) → document.new ≡ document.old }
 {
     if with_comments {
         remove_with_comments(document, way)
