@@ -192,8 +192,12 @@ module _ {A : Type 0} (old new : CstRootNode A) (v : Plain) (ts : List (List ℕ
   put_refused why fails d shown = absurd (fails d shown)
 
   pub put_stops : (error : PutError) → ((why : EditError) → error ≢ put_error.Edit why) → calls.FailsToPut old v Keep ts error → FailsWhatShown {A = A} (put ts v) old (faults.Put error)
-  put_stops (put_error.OtherKind number) other fails d shown = (fails d shown).0
-  put_stops (put_error.NoSuchIndex number) other fails d shown = fails d shown
+  put_stops (put_error.OtherKind number) other fails d shown =
+      let s = (fails d shown).0 in
+      record { front = s.front; token = s.token; rest = s.rest; split = s.split; is = s.is; path = s.path; x = s.x; leads = s.leads; so = s.stops }
+  put_stops (put_error.NoSuchIndex number) other fails d shown =
+      let s = fails d shown in
+      record { front = s.front; token = s.token; rest = s.rest; split = s.split; is = s.is; path = s.path; x = s.x; leads = s.leads; so = s.stops }
   put_stops (put_error.AmbiguousToken number) other fails d shown = fails d shown
   put_stops (put_error.Edit why) other fails d shown = absurd (other why refl)
 

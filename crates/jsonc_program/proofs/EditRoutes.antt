@@ -42,7 +42,7 @@ use Rattle.jsonc_program.specs.edit.Routes.{IsLedOver, IsLedTo, LeadsBy, LeadsNo
 use Rattle.jsonc_program.proofs.EditObjects.{element_property}
 
 -- a property has no value of its own
-no_property_value : (o : Options) (c : Content) (below : OrderedTree) (v : Plain) → c ≡ content.property → ValueOf o c below v → ⊥
+pub no_property_value : (o : Options) (c : Content) (below : OrderedTree) (v : Plain) → c ≡ content.property → ValueOf o c below v → ⊥
 no_property_value o _ below _ e (values.object h) = cc
 no_property_value o _ below _ e (values.string h) = cc
 no_property_value o _ below _ e values.number = cc

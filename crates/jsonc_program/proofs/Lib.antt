@@ -10,3 +10,5 @@ mod EditMakes
 mod FaultLines
 mod RawStrings
 mod Values
+mod EditComments
+mod EditEntries

@@ -1,10 +1,10 @@
 -- What the fault of an edit says of its words, of the input, and of the document.
-use Rattle.std.specs.Prelude.{◌≡◌, ◌≢◌, ◌⊎◌, ◌<◌, ℕ, Bool, true, false, List, [], Option, Some, None, IsUtf8, chars, string_bytes}
+use Rattle.std.specs.Prelude.{◌≡◌, ◌≢◌, ◌⊎◌, ◌<◌, ◌++◌, ◌∷◌, ℕ, length, Bool, true, false, List, [], Option, Some, None, IsUtf8, chars, string_bytes}
 use Rattle.jsonc_text.specs.Documents.{Document}
 use Rattle.jsonc_text.specs.Gaps.{IsComment}
 use Rattle.jsonc_text.specs.Grammar.{IsDocument}
 use Rattle.jsonc_text.specs.Options.{Options, all_on}
-use Rattle.jsonc_text.specs.Plain.{Members, Plain, object}
+use Rattle.jsonc_text.specs.Plain.{Items, Members, Plain, array, object}
 use Rattle.jsonc_text.specs.declared.edit.EditError.{EditError}
 use Rattle.jsonc_text.specs.declared.edit.EditError.TheVariants.{InvalidComment, LineContinues, NestingDepthExceeded, NoSuchPlace, OutOfMemory}
 use Rattle.jsonc_text.specs.declared.edit.Over.TheVariants.{Keep}
@@ -20,8 +20,9 @@ use Rattle.jsonc_run.specs.Named.{HasPropertyAt}
 use Rattle.jsonc_parser.specs.paths.Settings.{IsNoObject}
 use Rattle.jsonc_parser.specs.patch.Found.{IsOfShown}
 use Rattle.jsonc_parser.specs.patch.Pointer.{IsPointerFault}
-use Rattle.jsonc_parser.specs.patch.Putting.{IsAmbiguousAt, IsPutBy, StopsAt}
-use Rattle.jsonc_parser.specs.declared.patch.entry.Stop.TheVariants as stops
+use Rattle.jsonc_insert.specs.elements.Laws.{item_count}
+use Rattle.jsonc_parser.specs.patch.References.{IsIndex}
+use Rattle.jsonc_parser.specs.patch.Putting.{IsAmbiguousAt, IsOtherKind, IsPutBy, LeadsAlong}
 use Rattle.jsonc_parser.specs.declared.patch.putting.PutError.{PutError}
 use Rattle.jsonc_parser.specs.declared.patch.putting.PutError.TheVariants as put_error
 use Rattle.jsonc_engine.specs.Argument.{AreNoNames}
@@ -79,10 +80,26 @@ IsFaultOfInput o input (Engine (told.Input error)) = IsRefusalOf o input error
 IsFaultOfInput o input (Engine told.NotUtf8) = ¬ (IsUtf8 input)
 IsFaultOfInput o input fault = ⊥
 
+-- the tokens before the one of this number lead to a value, of which, and of the token, this is so
+pub record StopsBefore (w : Option Plain) (ts : List (List ℕ)) (number : ℕ) (is_so : List ℕ → Plain → Type 0) : Type 0 where
+  pub front : List (List ℕ)
+  pub token : List ℕ
+  pub rest : List (List ℕ)
+  pub split : ts ≡ front ++ token ∷ rest
+  pub is : number ≡ length front
+  pub path : List ℕ
+  pub x : Plain
+  pub leads : LeadsAlong w front path x
+  pub so : is_so token x
+
+-- the value is an array with fewer elements than the index that the token is
+abbrev pub IsPastEnd : List ℕ → Plain → Type 0
+IsPastEnd token x = (vs : Items) × (x ≡ array vs) × (i : ℕ) × IsIndex token i × (item_count vs < i)
+
 -- why a value is not put where tokens lead: a value of another kind is in the way, an array is shorter, or what a token would lead into is missing
 abbrev pub IsNotPut : Plain → List (List ℕ) → Option Plain → PutError → Type 0
-IsNotPut v ts w (put_error.OtherKind number) = StopsAt w ts number stops.OtherKind
-IsNotPut v ts w (put_error.NoSuchIndex number) = StopsAt w ts number stops.PastEnd
+IsNotPut v ts w (put_error.OtherKind number) = StopsBefore w ts number IsOtherKind
+IsNotPut v ts w (put_error.NoSuchIndex number) = StopsBefore w ts number IsPastEnd
 IsNotPut v ts w (put_error.AmbiguousToken number) = IsAmbiguousAt v Keep w ts number
 IsNotPut v ts w (put_error.Edit error) = ⊥
 

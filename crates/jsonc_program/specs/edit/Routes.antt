@@ -38,6 +38,11 @@ LeadsNowhere route w = (path : List ℕ) (v : Plain) → LeadsBy route w path v 
 abbrev pub LeadsWhere : Route → Document → (List ℕ → Type 0) → Type 0
 LeadsWhere route d is_so = (path : List ℕ) × (v : Plain) × LeadsBy route d.value path v × is_so path
 
+-- the property that has a value, or else the value itself
+abbrev pub entry_under : CstNode → Option CstContainerNode → CstNode
+entry_under node (Some (ObjectProp property)) = object_prop_node property
+entry_under node other = node
+
 module _ {A : Type 0} where
   abbrev pub route_of : Way A → Route
   route_of (ways.Tokens pointer) = tokens (tokens_of pointer)
@@ -61,10 +66,6 @@ module _ {A : Type 0} where
   value_of_entry doc (Container (ObjectProp property)) = value_under doc property.number
   value_of_entry doc node = Some node
 
-  -- the property that has a value, or else the value itself
-  abbrev pub entry_under : CstNode → Option CstContainerNode → CstNode
-  entry_under node (Some (ObjectProp property)) = object_prop_node property
-  entry_under node other = node
-
+  -- the property that has the value, or else the value itself
   abbrev pub entry_of : CstRootNode A → CstNode → CstNode
   entry_of doc node = entry_under node (parent_of doc node)

@@ -3,6 +3,7 @@
 ghost use Rattle.std.specs.Prelude.{◌≡◌, Some};
 ghost use Rattle.jsonc_engine.specs.Parser.{OutOfMemory};
 ghost use Rattle.jsonc_engine.specs.declared.fault.Fault.TheVariants as told;
+ghost use Rattle.jsonc_program.specs.declared.edit.fault.EditFault.TheVariants.{Engine};
 ghost use Rattle.jsonc_program.specs.edit.Lines.{edit_fault_line};
 
 use jsonc_engine::fault::Fault;
@@ -63,7 +64,7 @@ impl<A: Allocator> fmt::Display for EditFault<A> {
 impl<A: Allocator + fmt::Debug> Error for EditFault<A> {}
 
 impl<A: Allocator> From<Fault<A>> for EditFault<A> {
-    ghost from_gives = { λ fault given. given ≡ EditFault.Engine fault };
+    ghost from_gives = { λ fault given. given ≡ Engine fault };
 
     fn from(fault: Fault<A>) -> EditFault<A> {
         EditFault::Engine(fault)
@@ -71,7 +72,7 @@ impl<A: Allocator> From<Fault<A>> for EditFault<A> {
 }
 
 impl<A: Allocator> From<EditError> for EditFault<A> {
-    ghost from_gives = { λ error given. given ≡ EditFault.Engine (told.Edit error) };
+    ghost from_gives = { λ error given. given ≡ Engine (told.Edit error) };
 
     fn from(error: EditError) -> EditFault<A> {
         EditFault::Engine(Fault::Edit(error))
@@ -79,7 +80,7 @@ impl<A: Allocator> From<EditError> for EditFault<A> {
 }
 
 impl<A: Allocator> From<AllocError> for EditFault<A> {
-    ghost from_gives = { λ _ given. given ≡ EditFault.Engine (told.Edit OutOfMemory) };
+    ghost from_gives = { λ _ given. given ≡ Engine (told.Edit OutOfMemory) };
 
     fn from(_error: AllocError) -> EditFault<A> {
         EditFault::from(EditError::OutOfMemory)
@@ -87,7 +88,7 @@ impl<A: Allocator> From<AllocError> for EditFault<A> {
 }
 
 impl<A: Allocator, T: Drop> From<AllocFailed<T>> for EditFault<A> {
-    ghost from_gives = { λ _ given. given ≡ EditFault.Engine (told.Edit OutOfMemory) };
+    ghost from_gives = { λ _ given. given ≡ Engine (told.Edit OutOfMemory) };
 
     fn from(_error: AllocFailed<T>) -> EditFault<A> {
         EditFault::from(EditError::OutOfMemory)
