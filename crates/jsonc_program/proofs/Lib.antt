@@ -7,7 +7,6 @@ mod EditShown
 mod EditMade
 mod EditSorts
 mod EditMakes
-mod FaultLines
 mod RawStrings
 mod Values
 mod EditComments
