@@ -15,14 +15,20 @@ module _ {A : Type 0} (o : Options) (request : Request) (old rest : List ℕ) (i
 
   -- what is written is what follows the mark
   pub text_stays : (text : String A) → IsWritten o request rest (Some text) → string_bytes text ≡ rest → IsReplaced A o request old old
-  text_stays text h same = (Some text, written_behind (Some text) h,
-      sym (take-append-drop (mark_length old) old) ∙ ap (λ (r : List ℕ). take (mark_length old) old ++ r) (sym is ∙ sym same))
+  text_stays text h same = (
+    Some text,
+    written_behind (Some text) h,
+    sym (take-append-drop (mark_length old) old) ∙ ap (λ (r : List ℕ). take (mark_length old) old ++ r) (sym is ∙ sym same),
+  )
 
   -- it is put behind the mark
   pub text_follows : (text : String A) (mark new : List ℕ) → mark ≡ take (mark_length old) old → IsWritten o request rest (Some text)
       → new ≡ mark ++ string_bytes text → IsReplaced A o request old new
-  text_follows text mark new front h joined = (Some text, written_behind (Some text) h,
-      joined ∙ ap (λ (m : List ℕ). m ++ string_bytes text) front)
+  text_follows text mark new front h joined = (
+    Some text,
+    written_behind (Some text) h,
+    joined ∙ ap (λ (m : List ℕ). m ++ string_bytes text) front,
+  )
 
   -- nothing is written
   pub nothing_written : IsWritten {A = A} o request rest None → IsReplaced A o request old old

@@ -25,15 +25,17 @@ fn pointed(
     ensures found { IfOk result (λ text. IsPointed (parse_options options.now) pointer.now input.now (string_bytes text)) }
     ensures refused { IfErr result (IsNotPointed (parse_options options.now) pointer.entry input.now) }
 {
-    let way = Way::Tokens(pointer_of(alloc, pointer)?);
+    let pointer = pointer_of(alloc, pointer)?;
     let document = document_of(alloc, options, input)?;
-    match value_at(&document, &way) {
-        Ok(Some(value)) => match format!(in alloc; "{}\n", value.shown(&document)) {
-            Ok(text) => Ok(text),
-            Err(_) => Err(EditFault::from(EditError::OutOfMemory)),
-        },
-        Ok(None) => Err(EditFault::Engine(Fault::NoSuchValue)),
-        Err(error) => Err(EditFault::from(error)),
+    let way = Way::Tokens(pointer);
+    let value = match value_at(&document, &way) {
+        Ok(Some(value)) => value,
+        Ok(None) => return Err(EditFault::Engine(Fault::NoSuchValue)),
+        Err(error) => return Err(EditFault::from(error)),
+    };
+    match format!(in alloc; "{}\n", value.shown(&document)) {
+        Ok(text) => Ok(text),
+        Err(_) => Err(EditFault::from(EditError::OutOfMemory)),
     }
 }
 
