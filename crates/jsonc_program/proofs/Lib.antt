@@ -7,7 +7,6 @@ mod EditShown
 mod EditMade
 mod EditSorts
 mod EditMakes
-mod RawStrings
 mod Values
 mod EditComments
 mod EditEntries

@@ -2,7 +2,7 @@
 use Rattle.std.specs.Borrow.{Bor}
 use Rattle.std.specs.Prelude.{◌≡◌, ℕ, Bool, true, false, List, Option, Some, None}
 use Rattle.jsonc_engine.specs.Command.{Request, check, print, set, append, remove, sort, put, drop, patch, merge, as_json, is_pointer, request_of}
-use Rattle.jsonc_engine.specs.declared.called.Place.{Place}
+use Rattle.jsonc_engine.specs.declared.command.Place.{Place}
 use Rattle.jsonc_words.specs.declared.call.Command.{Command}
 use Rattle.jsonc_words.specs.declared.call.Command.TheVariants as called
 use Rattle.jsonc_words.specs.declared.call.Format.{Format}

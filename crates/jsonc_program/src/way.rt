@@ -41,9 +41,14 @@ pub fn told_of_way(
     let Some(count) = count_to(&document, &names) else {
         return Ok(None);
     };
-    let Some(last) = names[..count].last() else {
+    let Some(number) = count.checked_sub(1) else {
         return Ok(Some(format!(in alloc; "{IN_THE_WAY}: the document's")?));
     };
-    let name = spell(alloc, last.as_str())?;
-    Ok(Some(format!(in alloc; "{IN_THE_WAY}: that of {name}")?))
+    match names.get(number) {
+        Some(name) => {
+            let name = spell(alloc, name.as_str())?;
+            Ok(Some(format!(in alloc; "{IN_THE_WAY}: that of {name}")?))
+        }
+        None => Ok(None),
+    }
 }
