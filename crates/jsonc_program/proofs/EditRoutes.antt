@@ -22,6 +22,8 @@ use Rattle.jsonc_insert.proofs.lemmas.named.PropertyValues.{value_held}
 use Rattle.jsonc_cst.specs.declared.cst.CstRootNode.{CstRootNode}
 use Rattle.jsonc_cst.specs.declared.cst.node.CstNode.{CstNode}
 use Rattle.jsonc_cst.specs.declared.cst.node.CstObjectProp.{CstObjectProp}
+use Rattle.jsonc_cst.specs.declared.cst.node.CstContainerNode.TheVariants as containers
+use Rattle.jsonc_cst.specs.declared.cst.node.CstNode.TheVariants as nodes
 use Rattle.jsonc_cst.specs.Document.{nodes_of, HasNode}
 use Rattle.jsonc_cst.specs.Nodes.{number_of, object_prop_node, typed, typed_at, IsNodeOf}
 use Rattle.jsonc_cst.specs.Readings.{value_under}
@@ -42,7 +44,7 @@ use Rattle.jsonc_program.specs.edit.Routes.{IsLedOver, IsLedTo, LeadsBy, LeadsNo
 use Rattle.jsonc_program.proofs.EditObjects.{element_property}
 
 -- a property has no value of its own
-no_property_value : (o : Options) (c : Content) (below : OrderedTree) (v : Plain) → c ≡ content.property → ValueOf o c below v → ⊥
+pub no_property_value : (o : Options) (c : Content) (below : OrderedTree) (v : Plain) → c ≡ content.property → ValueOf o c below v → ⊥
 no_property_value o _ below _ e (values.object h) = cc
 no_property_value o _ below _ e (values.string h) = cc
 no_property_value o _ below _ e values.number = cc
@@ -53,7 +55,7 @@ no_property_value o _ below _ e (values.array h) = cc
 some_node : {x y : CstNode} → Some x ≡ Some y → x ≡ y
 some_node e = cc
 
-no_some : {A : Type 0} {x : A} → None ≡ Some x → ⊥
+pub no_some : {A : Type 0} {x : A} → None ≡ Some x → ⊥
 no_some e = cc
 
 -- what tokens lead to a route of them leads to
@@ -157,3 +159,9 @@ module _ (ns : List Node) (node : CstNode) (held : IsNodeOf ns node) where
 
   pub no_property : ((x : CstObjectProp) → node ≡ object_prop_node x → ⊥) → content_at ns (number_of node) ≡ content.property → ⊥
   no_property other is = other (record { number = number_of node }) (sym held.1 ∙ ap (λ (c : Content). typed c (number_of node)) is)
+
+-- what is no property is its own value
+pub of_no_property : {A : Type 0} (doc : CstRootNode A) (entry : CstNode) → ((x : CstObjectProp) → entry ≡ object_prop_node x → ⊥) → value_of_entry doc entry ≡ Some entry
+of_no_property doc (nodes.Container (containers.ObjectProp x)) other = absurd (other x refl)
+of_no_property doc (nodes.Container x) other = refl
+of_no_property doc (nodes.Leaf x) other = refl

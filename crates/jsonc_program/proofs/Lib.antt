@@ -1,3 +1,4 @@
+mod EditTexts
 mod EditValues
 mod EditNames
 mod EditObjects
@@ -6,3 +7,5 @@ mod EditShown
 mod EditMade
 mod EditSorts
 mod EditMakes
+mod EditComments
+mod EditEntries

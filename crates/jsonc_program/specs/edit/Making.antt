@@ -1,10 +1,10 @@
 -- What is made of a document, as it is asked for.
-use Rattle.std.specs.Prelude.{◌≡◌, ◌⊎◌, ℕ, Bool, true, false, List, [], ◌∷◌, Some}
+use Rattle.std.specs.Prelude.{◌≡◌, ◌⊎◌, ℕ, Bool, true, false, List, [], ◌∷◌, Some, if◌then◌else◌}
 use Rattle.jsonc_text.specs.Documents.{Document}
 use Rattle.jsonc_text.specs.declared.edit.Over.TheVariants.{Keep}
 use Rattle.jsonc_tree.specs.OrderedTree.{ordered_tree}
 use Rattle.jsonc_tree.specs.Tree.{Node, parent_at}
-use Rattle.jsonc_cst.specs.EntryComments.{comments_at}
+use Rattle.jsonc_cst.specs.EntryComments.{comments_at, is_entry_at}
 use Rattle.jsonc_cst.specs.typed.Clearing.{LosesComments}
 use Rattle.jsonc_cst.specs.declared.cst.CstRootNode.{CstRootNode}
 use Rattle.jsonc_cst.specs.Document.{tree_of}
@@ -24,7 +24,11 @@ use Rattle.jsonc_program.specs.edit.Sorting.{SortsAt, SortsObjects}
 abbrev pub MadeBy : Operation → Document → Document → Type 0
 MadeBy operation d e = Run d (operation ∷ []) e
 
--- The entry n at the path has left, and then those of the comments that belong to it and that its container had still.
+-- the comments that belong to a node, if it is an entry
+abbrev pub entry_comments : List Node → ℕ → List ℕ
+entry_comments ns n = if is_entry_at ns n then comments_at ns n else []
+
+-- What is at the path has left, the node n, and then those of its comments that its container had still.
 pub record LeavesWithComments (path : List ℕ) (d e : Document) : Type 0 where
   pub nodes : List Node
   pub shown : Shows d (ordered_tree nodes 0)
@@ -36,12 +40,12 @@ pub record LeavesWithComments (path : List ℕ) (d e : Document) : Type 0 where
   pub mid : Document
   pub left : MadeBy (texts.remove path) d mid
   pub new : List Node
-  pub comments : LosesComments container new e without mid (comments_at nodes n)
+  pub comments : LosesComments container new e without mid (entry_comments nodes n)
 
--- What is at the path has left: alone, or with its comments. The document's value has none of its own.
+-- it has left, alone or with its comments
 abbrev pub Leaves : Bool → List ℕ → Document → Document → Type 0
 Leaves false path d e = MadeBy (texts.remove path) d e
-Leaves true path d e = LeavesWithComments path d e ⊎ ((path ≡ []) × MadeBy (texts.remove []) d e)
+Leaves true path d e = LeavesWithComments path d e
 
 -- nothing is there, nothing has to be, and the document stays
 abbrev pub MayStay : Route → Bool → Document → Document → Type 0

@@ -92,6 +92,9 @@ pub(crate) fn entry_of<A: Allocator>(document: &CstRootNode<A>, value: CstNode) 
 {
     match value.parent(document) {
         Some(CstContainerNode::ObjectProp(property)) => property.node(),
-        _ => value,
+        Some(CstContainerNode::Root(_)) => value,
+        Some(CstContainerNode::Array(_)) => value,
+        Some(CstContainerNode::Object(_)) => value,
+        None => value,
     }
 }
