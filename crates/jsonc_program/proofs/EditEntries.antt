@@ -1,5 +1,5 @@
 -- The entry that a value is, or that has it, and what is made of a document that it has left with its comments.
-use Rattle.std.proofs.Common.{◌≡◌, ◌≢◌, ◌∙◌, ◌⊎◌, ◌&&◌, ◌<◌, ◌≤◌, ◌++◌, ℕ, Bool, true, false, cond, List, [], ◌∷◌, Ok, Option, Result, Some, None, option_map, inl, inr, refl, sym, ap, subst, arith}
+use Rattle.std.proofs.Common.{◌≡◌, ◌≢◌, ◌∙◌, ◌⊎◌, ◌&&◌, ◌<◌, ◌≤◌, ◌++◌, ℕ, Bool, true, false, cond, List, [], ◌∷◌, Err, Ok, Option, Result, Some, None, option_map, inl, inr, refl, sym, ap, subst, arith}
 use Rattle.std.proofs.lemmas.Bool.{cases_Bool}
 use Rattle.std.specs.Prelude.{IsTrue}
 use Rattle.jsonc_text.specs.Documents.{Document, IsOne}
@@ -50,7 +50,10 @@ use Rattle.jsonc_cst.specs.typed.Clearing.{LosesComments, RemovesBlanks, Removes
 use Rattle.jsonc_cst.specs.typed.Removing.{AreClearedIfAny, IsTakenWithComments, is_name_or_value, removal_of}
 use Rattle.jsonc_parser.proofs.lemmas.paths.Depths.{run_within}
 use Rattle.jsonc_parser.proofs.lemmas.paths.TakenValues.{nodes_have_values}
+use Rattle.jsonc_engine.specs.declared.fault.Fault.TheVariants as told
+use Rattle.jsonc_program.specs.declared.edit.fault.EditFault.TheVariants as faults
 use Rattle.jsonc_program.specs.edit.Asked.{remove}
+use Rattle.jsonc_program.specs.edit.Faults.{FailsWhatShown, IsWhyNot}
 use Rattle.jsonc_program.specs.edit.Making.{LeavesWithComments, MadeBy, MakesWhatShown, entry_comments}
 use Rattle.jsonc_program.specs.edit.Routes.{IsLedTo, Route, entry_of, entry_under}
 use Rattle.jsonc_program.proofs.EditComments.{kind_still, over_still}
@@ -303,3 +306,14 @@ removed_with_comments old new tree route value held led in_object removal d show
     let there = entry_there old tree d shown value held w.0 w.3 in
     let m = removed_so old new tree d shown w.0 there.0 there.2 (subst (λ k. IsEntryRemoval old new k (Ok tt)) (sym there.1) removal) in
     (m.0, m.1, record { options = m.2; within = m.3; makes = inl (w.0, w.1, w.2, m.4) })
+
+-- why it has not
+pub kept_with_comments : {A : Type 0} (old new : CstRootNode A) → IsTree (nodes_of old) → (route : Route) (value : CstNode) → HasNode old value → IsLedTo old route (Some value) → (in_object : Bool) (why : EditError)
+    → IsEntryRemoval old new (entry_of old value) (Err why) → FailsWhatShown {A = A} (remove route in_object true true) old (faults.Engine (told.Edit why))
+kept_with_comments old new tree route value held led in_object why removal d shown =
+    let w = led d shown in
+    let there = entry_there old tree d shown value held w.0 w.3 in
+    let entry = there.2 in
+    let removed = subst (λ k. IsEntryRemoval old new k (Err why)) (sym there.1) removal in
+    let memory : why ≡ OutOfMemory = (removed.removed (no_name old new tree d shown w.0 there.0 entry)).memory d.options shown.sound (above entry.said entry.inside) in
+    subst (λ e. IsWhyNot (remove route in_object true true) (faults.Engine (told.Edit e)) d) (sym memory) tt

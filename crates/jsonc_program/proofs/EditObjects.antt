@@ -188,3 +188,8 @@ module _ {A F : Type 0} (g : Shared F (Bor (CstRootNode A) × (CstObjectProp × 
         detached = sorted.placed.detached;
         step = sorted.placed.step;
       }
+
+  pub sorted_by_names : (pinned : CstNode → List (Option CstObjectProp) → List (Option ℕ) → Type 0) (y : CstObject) (groups : Bool) → IsTree (nodes_of old) → y ≡ x → groups ≡ false → Sorted pinned y groups → ComparesNames
+      → HasSorted (nodes_of old) (nodes_of new) x.number
+  sorted_by_names pinned y groups tree one off sorted told =
+      sorted_so pinned tree told (subst (λ (b : Bool). Sorted pinned x b) off (subst (λ (w : CstObject). Sorted pinned w groups) one sorted))

@@ -1,6 +1,9 @@
 -- To which node of a document, and over which positions, a route leads.
-use Rattle.std.proofs.Common.{◌≡◌, ◌≢◌, ◌⊎◌, ◌∙◌, ◌++◌, ◌<◌, ℕ, List, [], ◌∷◌, Option, Some, None, length, option_map, inl, inr, refl, sym, ap, subst}
+use Rattle.std.proofs.Common.{Err, IfOk, Ok, Result, ◌≡◌, ◌≢◌, ◌⊎◌, ◌∙◌, ◌++◌, ◌<◌, ℕ, List, [], ◌∷◌, Option, Some, None, length, option_map, inl, inr, refl, sym, ap, subst}
+use Rattle.std.specs.Prelude.{IfNone, IfSome}
+use Rattle.std.specs.declared.vec.Vec.{Vec}
 use Rattle.jsonc_text.specs.Documents.{Document}
+use Rattle.jsonc_text.specs.declared.edit.EditError.{EditError}
 use Rattle.jsonc_text.specs.Plain as plain
 use Rattle.jsonc_text.specs.Plain.{Plain}
 use Rattle.jsonc_tree.specs.Content as content
@@ -22,6 +25,8 @@ use Rattle.jsonc_insert.proofs.lemmas.named.PropertyValues.{value_held}
 use Rattle.jsonc_cst.specs.declared.cst.CstRootNode.{CstRootNode}
 use Rattle.jsonc_cst.specs.declared.cst.node.CstNode.{CstNode}
 use Rattle.jsonc_cst.specs.declared.cst.node.CstObjectProp.{CstObjectProp}
+use Rattle.jsonc_cst.specs.declared.cst.node.CstContainerNode.TheVariants as containers
+use Rattle.jsonc_cst.specs.declared.cst.node.CstNode.TheVariants as nodes
 use Rattle.jsonc_cst.specs.Document.{nodes_of, HasNode}
 use Rattle.jsonc_cst.specs.Nodes.{number_of, object_prop_node, typed, typed_at, IsNodeOf}
 use Rattle.jsonc_cst.specs.Readings.{value_under}
@@ -53,7 +58,7 @@ no_property_value o _ below _ e (values.array h) = cc
 some_node : {x y : CstNode} → Some x ≡ Some y → x ≡ y
 some_node e = cc
 
-no_some : {A : Type 0} {x : A} → None ≡ Some x → ⊥
+pub no_some : {A : Type 0} {x : A} → None ≡ Some x → ⊥
 no_some e = cc
 
 -- what tokens lead to a route of them leads to
@@ -157,3 +162,30 @@ module _ (ns : List Node) (node : CstNode) (held : IsNodeOf ns node) where
 
   pub no_property : ((x : CstObjectProp) → node ≡ object_prop_node x → ⊥) → content_at ns (number_of node) ≡ content.property → ⊥
   no_property other is = other (record { number = number_of node }) (sym held.1 ∙ ap (λ (c : Content). typed c (number_of node)) is)
+
+-- what is no property is its own value
+pub of_no_property : {A : Type 0} (doc : CstRootNode A) (entry : CstNode) → ((x : CstObjectProp) → entry ≡ object_prop_node x → ⊥) → value_of_entry doc entry ≡ Some entry
+of_no_property doc (nodes.Container (containers.ObjectProp x)) other = absurd (other x refl)
+of_no_property doc (nodes.Container x) other = refl
+of_no_property doc (nodes.Leaf x) other = refl
+
+module _ {A : Type 0} (doc : CstRootNode A) (tree : IsTree (nodes_of doc)) where
+  -- the value of the entry that tokens lead to
+  pub led_by_entry : (ts : List (List ℕ)) (entry : CstNode) → HasNode doc entry → IsOfShown doc (FindsEntry doc ts (Some entry)) → (r : Option CstNode) → r ≡ value_of_entry doc entry → IsLedTo doc (tokens ts) r
+  led_by_entry ts (nodes.Container (containers.ObjectProp x)) held found r e =
+      led_by_property doc tree ts (object_prop_node x) found (is_property (nodes_of doc) (object_prop_node x) held x refl) r e
+  led_by_entry ts (nodes.Container x) held found r e =
+      subst (IsLedTo doc (tokens ts)) (sym e) (led_by_element doc tree ts (nodes.Container x) found (no_property (nodes_of doc) (nodes.Container x) held (λ y same. cc)))
+  led_by_entry ts (nodes.Leaf x) held found r e =
+      subst (IsLedTo doc (tokens ts)) (sym e) (led_by_element doc tree ts (nodes.Leaf x) found (no_property (nodes_of doc) (nodes.Leaf x) held (λ y same. cc)))
+
+  -- the positions that were answered
+  pub path_led : (route : Route) (node : CstNode) → IsLedTo doc route (Some node) → (r : Result (Option (Vec ℕ A)) EditError) → IfOk r (λ found. IfSome found (λ path. IsAt (nodes_of doc) path.items (number_of node)))
+      → IfOk r (λ found. IfNone found ((path : List ℕ) → IsAt (nodes_of doc) path (number_of node) → ⊥)) → IfOk r (λ found. IsLedOver doc route (option_map (λ path. path.items) found))
+  path_led route node led (Ok (Some path)) at none = led_over doc tree route node led path.items at
+  path_led route node led (Ok None) at none = led_nowhere_else doc tree route node led none
+  path_led route node led (Err e) at none = tt
+
+  pub names_led : (all : List (List ℕ)) (r : Result (Option CstNode) EditError) → IfOk r (FindsWhatShown doc all) → IfOk r (IsLedTo doc (names all))
+  names_led all (Ok found) h = led_by_names doc tree all found h
+  names_led all (Err e) h = tt

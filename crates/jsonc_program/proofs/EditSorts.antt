@@ -1,6 +1,5 @@
 -- Objects that are sorted one after another, as one chain of documents.
 use Rattle.std.proofs.Common.{◌≡◌, ◌≢◌, ◌∙◌, ◌⊎◌, ◌≤◌, ℕ, zero, suc, List, [], ◌∷◌, Option, Some, None, inl, inr, refl, sym, ap, subst, arith}
-use Rattle.std.specs.List.{All}
 use Rattle.jsonc_text.specs.Documents.{Document}
 use Rattle.jsonc_tree.specs.Content.{object}
 use Rattle.jsonc_tree.specs.OrderedTree.{ordered_tree}
@@ -15,7 +14,6 @@ use Rattle.jsonc_cst.specs.declared.cst.CstRootNode.{CstRootNode}
 use Rattle.jsonc_cst.specs.declared.cst.node.CstObject.{CstObject}
 use Rattle.jsonc_cst.specs.Document.{nodes_of, tree_of, HasNode}
 use Rattle.jsonc_cst.specs.Nodes.{object_node}
-use Rattle.jsonc_cst.specs.typed.Edits.{HandlesStay}
 use Rattle.jsonc_parser.proofs.lemmas.paths.Depths.{run_within}
 use Rattle.jsonc_parser.proofs.lemmas.paths.Found.{is_object}
 use Rattle.jsonc_program.specs.edit.Sorting.{HasSorted, SortsAt, SortsObjects, SortsWhatShown, none_left, one_sorted}
@@ -101,7 +99,3 @@ sorts_further old mid new x tree held so_far sorted d shown =
     let m = so_far d shown in
     let e = one_more mid new x tree held sorted m.0 m.1 in
     (e.0, e.1, e.2 ∙ m.2, (λ within. e.3 (m.3 within)), sorts_join m.4 e.4)
-
--- nodes that were there are there still
-pub all_held : {A : Type 0} (old new : CstRootNode A) (objects : List CstObject) → HandlesStay old new → All (λ x. HasNode old (object_node x)) objects → All (λ x. HasNode new (object_node x)) objects
-all_held old new objects stay all k x low = stay (object_node _) (all k x low)

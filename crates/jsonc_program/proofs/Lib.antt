@@ -1,4 +1,5 @@
 mod Changes
+mod EditTexts
 mod EditValues
 mod EditNames
 mod EditObjects

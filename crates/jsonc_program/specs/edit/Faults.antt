@@ -170,6 +170,16 @@ abbrev pub IsCause : {A : Type 0} → Options → Edit → List ℕ → EditFaul
 IsCause o edit input fault = IsFaultOfWords o edit fault ⊎ (IsFaultOfInput o input fault ⊎ IsFaultOfDocument o edit input fault)
 
 module _ {A : Type 0} where
+  -- the fault where the library has not renamed a property
+  abbrev pub rename_fault : EditError → EditFault A
+  rename_fault NoSuchPlace = NotProperty
+  rename_fault error = Engine (told.Edit error)
+
+  -- nothing is there
+  abbrev pub is_nothing : EditFault A → Bool
+  is_nothing (Engine told.NoSuchValue) = true
+  is_nothing fault = false
+
   -- why one edit of the library was not made
   abbrev pub IsRefusedThere : CstRootNode A → library.Edit A → EditError → Type 0
   IsRefusedThere doc edit why =

@@ -41,11 +41,11 @@ pub record IsJson (o : Options) (json : List ℕ) (v : Plain) : Type 0 where
   pub collapsed : v ≡ collapse value
   pub numbers : IsOfNumbers o v
 
--- the text without line ends at its end
+-- the bytes of a text without line ends at its end
 abbrev pub IsWithoutEnd : List ℕ → List ℕ → Type 0
 IsWithoutEnd text s = (ends : List ℕ) × (text ≡ s ++ ends) × All (λ c. IsTrue (is_line_end c)) ends
 
--- The comment of a text: the text itself, or a line comment or a block comment that says it. Line ends at the text's end are left out.
+-- The comment of a text, in bytes: the text itself, or a line comment or a block comment that says it. Line ends at the text's end are left out.
 pub data IsCommentOf (text : List ℕ) : List ℕ → Type 0 where
   itself : (s : List ℕ) → IsWithoutEnd text s → IsCommentOf text s
   on_a_line : (s : List ℕ) → IsWithoutEnd text s → IsCommentOf text (codes "// " ++ s)
@@ -69,5 +69,5 @@ IsAskedBy o (Remove target with_comments must_exist) asked =
     (route : Route) × IsRouteOf target route × (asked ≡ asks.remove route (is_named target) with_comments must_exist)
 IsAskedBy o (Rename place name) asked = (route : Route) × IsRouteTo place route × (asked ≡ asks.rename route (chars name.now))
 IsAskedBy o (Comment place text is_after) asked =
-    (route : Route) × (s : List ℕ) × IsRouteTo place route × IsCommentOf (chars text.now) s × (asked ≡ asks.comment route (side is_after) s)
+    (route : Route) × (s : List ℕ) × IsRouteTo place route × IsCommentOf text.now s × (asked ≡ asks.comment route (side is_after) (chars s))
 IsAskedBy o (Sort at is_recursive keeps_headers) asked = (route : Route) × IsRouteIf at route × (asked ≡ asks.sort route is_recursive keeps_headers)

