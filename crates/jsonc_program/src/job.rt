@@ -189,41 +189,41 @@ pub fn job_of<'a>(
     ensures asked { IfOk result (IsJobOf command.entry must_exist text.now) }
     ensures refused { IfErr result (λ fault. HasPlace command.entry fault.word.now × IsNoPlace fault.word.now) }
 {
-    Ok(match command {
-        call::Command::Check { format } => check_job(format),
-        call::Command::Print => Job::Run(Command::Print),
-        call::Command::Set { name, .. } => set_job(name, text, must_exist),
-        call::Command::Append { .. } => Job::Run(Command::Append { json: text }),
+    match command {
+        call::Command::Check { format } => Ok(check_job(format)),
+        call::Command::Print => Ok(Job::Run(Command::Print)),
+        call::Command::Set { name, .. } => Ok(set_job(name, text, must_exist)),
+        call::Command::Append { .. } => Ok(Job::Run(Command::Append { json: text })),
         call::Command::Remove {
             name,
             with_comments,
-        } => remove_job(name, with_comments, must_exist),
+        } => Ok(remove_job(name, with_comments, must_exist)),
         call::Command::Sort {
             at,
             is_recursive,
             keeps_headers,
-        } => sort_job(place_if(at)?, is_recursive, keeps_headers),
+        } => Ok(sort_job(place_if(at)?, is_recursive, keeps_headers)),
         call::Command::Drop {
             place: at,
             with_comments,
-        } => drop_job(place(at)?, with_comments, must_exist),
-        call::Command::Get { place: at, is_raw } => get_job(place(at)?, is_raw),
-        call::Command::Put { place: at, .. } => put_job(place(at)?, text, must_exist),
-        call::Command::Rename { place: at, name } => rename_job(place(at)?, name),
+        } => Ok(drop_job(place(at)?, with_comments, must_exist)),
+        call::Command::Get { place: at, is_raw } => Ok(get_job(place(at)?, is_raw)),
+        call::Command::Put { place: at, .. } => Ok(put_job(place(at)?, text, must_exist)),
+        call::Command::Rename { place: at, name } => Ok(rename_job(place(at)?, name)),
         call::Command::Comment {
             place: at,
             is_after,
             ..
-        } => comment_job(place(at)?, text, is_after),
-        call::Command::Patch { most_bytes, .. } => patch_job(text, most_bytes),
-        call::Command::Merge { .. } => Job::Run(Command::Merge { text }),
-        call::Command::Json => Job::Run(Command::Json),
+        } => Ok(comment_job(place(at)?, text, is_after)),
+        call::Command::Patch { most_bytes, .. } => Ok(patch_job(text, most_bytes)),
+        call::Command::Merge { .. } => Ok(Job::Run(Command::Merge { text })),
+        call::Command::Json => Ok(Job::Run(Command::Json)),
         call::Command::Lint {
             format,
             no_trailing_commas,
-        } => Job::Lint {
+        } => Ok(Job::Lint {
             format,
             no_trailing_commas,
-        },
-    })
+        }),
+    }
 }

@@ -6,7 +6,7 @@ use Rattle.jsonc_program.proofs.Values.{pointed_nowhere}
 use Rattle.jsonc_program.proofs.value.pointed.Goals as goal
 
 pub returns-in-Ok-None-clause-refused : goal.returns-in-Ok-None-clause-refused
-returns-in-Ok-None-clause-refused g c =
+returns-in-Ok-None-clause-refused c =
     let doc = c.in_ok-document.document in
     let ts = tokens_of c.in_ok-pointer.pointer in
     inr (inr (inl (
