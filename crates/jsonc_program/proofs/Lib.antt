@@ -1,3 +1,4 @@
+mod Jobs
 mod Changes
 mod EditTexts
 mod EditValues
