@@ -1,5 +1,5 @@
 -- What is made of a document where a route leads, and why it is not.
-use Rattle.std.proofs.Common.{◌≡◌, ◌≢◌, ◌∙◌, ◌⊎◌, ◌<◌, ◌≤◌, ◌+◌, ℕ, zero, suc, Bool, true, false, List, [], ◌∷◌, Option, Some, None, get_or, length, chars, inl, inr, refl, sym, ap, subst, arith}
+use Rattle.std.proofs.Common.{◌≡◌, ◌≢◌, ◌∙◌, ◌⊎◌, ◌<◌, ◌≤◌, ◌+◌, ℕ, zero, suc, Bool, true, false, List, [], ◌∷◌, Option, Some, None, get_or, length, option_map, chars, inl, inr, refl, sym, ap, subst, arith}
 use Rattle.std.proofs.lemmas.Bool.{false≢true}
 use Rattle.std.specs.List.{All}
 use Rattle.std.specs.Prelude.{string_bytes}
@@ -10,7 +10,7 @@ use Rattle.jsonc_text.specs.Options.{Options}
 use Rattle.jsonc_text.specs.Plain as plains
 use Rattle.jsonc_text.specs.Plain.{Members, Plain}
 use Rattle.jsonc_text.specs.declared.edit.EditError.{EditError}
-use Rattle.jsonc_text.specs.declared.edit.EditError.TheVariants.{InvalidComment, LineContinues, NestingDepthExceeded, NoSuchPlace, OutOfMemory}
+use Rattle.jsonc_text.specs.declared.edit.EditError.TheVariants.{InvalidComment, LineContinues, MissingBrackets, MissingName, NestingDepthExceeded, NoSuchPlace, NotAnEntry, OutOfMemory}
 use Rattle.jsonc_text.specs.declared.edit.Over.TheVariants.{Keep}
 use Rattle.jsonc_text.specs.declared.edit.Place as sides
 use Rattle.jsonc_text.specs.declared.edit.Place.TheVariants.{Above, After}
@@ -20,9 +20,12 @@ use Rattle.jsonc_edit.proofs.Uniqueness.{over_at, path_once}
 use Rattle.jsonc_insert.proofs.lemmas.named.PathValues.{value_once}
 use Rattle.jsonc_layout.specs.input.Views.{chars_of, plain}
 use Rattle.jsonc_layout.specs.declared.input.value.CstInputValue.{CstInputValue}
-use Rattle.jsonc_tree.specs.Content.{object}
+use Rattle.jsonc_tree.specs.Content as contents
+use Rattle.jsonc_tree.specs.Content.{Content, object}
+use Rattle.jsonc_layout.specs.nodes.Properties.{value_at}
 use Rattle.jsonc_tree.specs.OrderedTree.{ordered_tree}
 use Rattle.jsonc_tree.specs.Tree.{Node, content_at, IsTree}
+use Rattle.jsonc_sound.specs.Changes as changes
 use Rattle.jsonc_sound.specs.Changes.{Changed}
 use Rattle.jsonc_sound.specs.Documents.{Shows}
 use Rattle.jsonc_sound.specs.Sound.{HasValue}
@@ -39,7 +42,9 @@ use Rattle.jsonc_cst.specs.declared.cst.CstRootNode.{CstRootNode}
 use Rattle.jsonc_cst.specs.declared.cst.node.CstNode.{CstNode}
 use Rattle.jsonc_cst.specs.declared.cst.node.CstObject.{CstObject}
 use Rattle.jsonc_cst.specs.Document.{nodes_of, tree_of, HasNode}
-use Rattle.jsonc_cst.specs.Nodes.{number_of, object_node}
+use Rattle.jsonc_cst.specs.Nodes.{number_of, object_node, typed, typed_at}
+use Rattle.jsonc_cst.specs.Readings.{object_if, value_under}
+use Rattle.jsonc_parser.proofs.lemmas.paths.AtPaths.{root_holds}
 use Rattle.jsonc_parser.specs.paths.Settings.{IsNoObject}
 use Rattle.jsonc_parser.specs.patch.PutCalls as calls
 use Rattle.jsonc_parser.specs.declared.patch.putting.PutError.{PutError}
@@ -51,16 +56,16 @@ use Rattle.jsonc_engine.specs.declared.fault.Fault.TheVariants as told
 use Rattle.jsonc_program.specs.declared.edit.fault.EditFault.{EditFault}
 use Rattle.jsonc_program.specs.declared.edit.fault.EditFault.TheVariants as faults
 use Rattle.jsonc_program.specs.edit.Asked.{Asked, comment, put, remove, rename, replace, sort}
-use Rattle.jsonc_program.specs.edit.Faults.{FailsWhatShown, IsRefusedThere, IsWhyNot, needed}
+use Rattle.jsonc_program.specs.edit.Faults.{FailsWhatShown, IsRefusedThere, IsWhyNot, is_nothing, needed}
 use Rattle.jsonc_program.specs.edit.Making.{IsMadeIn, MadeBy, MakesWhatShown, MayStay}
 use Rattle.jsonc_program.specs.edit.Routes.{IsLedOver, IsLedTo, LeadsBy, LeadsNowhere, LeadsOver, LeadsWhere, Route}
 use Rattle.jsonc_program.specs.edit.Sorting.{HasSorted, SortsAt, SortsObjects, SortsWhatShown}
 use Rattle.jsonc_program.proofs.EditMade.{one_made_of, run_options, stands_there}
 use Rattle.jsonc_program.proofs.EditSorts.{over_place}
 
-all_one : {A : Type 0} {P : A → Type 0} {x : A} → P x → All P (x ∷ [])
-all_one h zero d low = h
-all_one h (suc k) d low = absurd (omega (arith, low))
+all_one : {A : Type 0} (P : A → Type 0) (x : A) → P x → All P (x ∷ [])
+all_one P x h zero d low = h
+all_one P x h (suc k) d low = absurd (omega (arith, low))
 
 -- nothing is there that has to be
 pub nothing_there : {A : Type 0} (doc : CstRootNode A) (route : Route) (asked : Asked) → IsLedOver doc route None → needed asked ≡ Some route → FailsWhatShown {A = A} asked doc (faults.Engine told.NoSuchValue)
@@ -79,7 +84,7 @@ module _ {A : Type 0} (old new : CstRootNode A) (route : Route) (path : Vec ℕ 
       → ((o : Options) → options_behind o (op path.items) ≡ o) → EditsTheText (tree_of old) (edit ∷ []) (tree_of new) → (d : Document) → Shows d (tree_of old) → Fits d.options edit → MadeThere op d
   made_there edit op asks behind edits d shown fits =
       let w = led d shown in
-      let e = edits d shown (all_one fits) in
+      let e = edits d shown (all_one (Fits d.options) edit fits) in
       let one = one_made_of edit e.2 refl in
       let run : Run d (op path.items ∷ []) e.0 = subst (λ it. Run d (it ∷ []) e.0) (asks d.value one.order one.op one.asks) one.run in
       record {
@@ -228,3 +233,55 @@ module _ {A : Type 0} (old new : CstRootNode A) (tree : IsTree (nodes_of old)) (
     where
       some_plain : {x y : Plain} → Some x ≡ Some y → x ≡ y
       some_plain e = cc
+
+-- a fault that is another than that nothing is there
+pub another_fault : {A : Type 0} (fault : EditFault A) → is_nothing fault ≡ false → fault ≡ faults.Engine told.NoSuchValue → ⊥
+another_fault fault other is = false≢true (sym other ∙ ap is_nothing is)
+
+nothing_is : {A : Type 0} (fault : EditFault A) → is_nothing fault ≡ true → fault ≡ faults.Engine told.NoSuchValue
+nothing_is (faults.Engine told.NoSuchValue) e = refl
+nothing_is (faults.Engine f) e = cc
+nothing_is fault e = cc
+
+-- nothing was there, and nothing had to be
+pub stays_for_nothing : {A : Type 0} (old new : CstRootNode A) (route : Route) (in_object with_comments must_exist : Bool) (fault : EditFault A) → is_nothing fault ≡ true → must_exist ≡ false
+    → FailsWhatShown (remove route in_object with_comments true) old fault → ((fault ≡ faults.Engine told.NoSuchValue) → new ≡ old) → MakesWhatShown (remove route in_object with_comments must_exist) old new
+stays_for_nothing old new route in_object with_comments must_exist fault nothing free fails stays =
+    let is = nothing_is fault nothing in
+    subst (λ b. MakesWhatShown (remove route in_object with_comments b) old new) (sym free)
+    (stays_there old new route in_object with_comments (subst (FailsWhatShown (remove route in_object with_comments true) old) is fails) (stays is))
+
+-- what is told where something has to be is told
+pub told_so : {A : Type 0} (doc : CstRootNode A) (route : Route) (in_object with_comments must_exist : Bool) (fault : EditFault A) → must_exist ≡ true → FailsWhatShown (remove route in_object with_comments true) doc fault
+    → FailsWhatShown (remove route in_object with_comments must_exist) doc fault
+told_so doc route in_object with_comments must_exist fault must fails = subst (λ b. FailsWhatShown (remove route in_object with_comments b) doc fault) (sym must) fails
+
+pub told_of_another : {A : Type 0} (doc : CstRootNode A) (route : Route) (in_object with_comments must_exist : Bool) (fault : EditFault A) → is_nothing fault ≡ false → FailsWhatShown (remove route in_object with_comments true) doc fault
+    → FailsWhatShown (remove route in_object with_comments must_exist) doc fault
+told_of_another doc route in_object with_comments must_exist fault other fails = told_anyhow doc route in_object with_comments must_exist fault fails (λ is. absurd (another_fault fault other is))
+
+-- the document has no object
+pub lacks_object : {A : Type 0} (doc : CstRootNode A) (tree : IsTree (nodes_of doc)) (route : Route) (with_comments must_exist : Bool) → None ≡ object_if (value_under doc 0)
+    → FailsWhatShown {A = A} (remove route true with_comments must_exist) doc (faults.Engine told.NotObject)
+lacks_object doc tree route with_comments must_exist none d shown ms is = no_object_root (value_at (nodes_of doc) 0) refl none
+  where
+    no_object_root : (q : Option ℕ) → value_at (nodes_of doc) 0 ≡ q → None ≡ object_if (option_map (typed_at (nodes_of doc)) q) → ⊥
+    no_object_root None at e =
+        let nothing : d.value ≡ None = (root_holds d (nodes_of doc) tree shown).none.0 at in
+        let wrong : None ≡ Some (plains.object ms) = sym nothing ∙ is in cc
+    no_object_root (Some n) at e =
+        let there = (root_holds d (nodes_of doc) tree shown).some n at in
+        let h = nodes_have_values {A = Unit {0}} d (nodes_of doc) [] n tree shown there in
+        let same : h.v ≡ plains.object ms = value_at_root h.there ∙ some_plain (sym h.is ∙ is) in
+        let kind : content_at (nodes_of doc) n ≡ object = object_content d.options (content_at (nodes_of doc) n) (row_below (nodes_of doc) n) ms (subst (HasValue d.options (top_at (nodes_of doc) n)) same h.has) in
+        no_object_typed (content_at (nodes_of doc) n) n kind e
+      where
+        some_plain : {x y : Plain} → Some x ≡ Some y → x ≡ y
+        some_plain e = cc
+
+        value_at_root : {a b x y : Plain} → Changed a b [] x y → a ≡ x
+        value_at_root changes.itself = refl
+
+        no_object_typed : (c : Content) (k : ℕ) → c ≡ object → None ≡ object_if (Some (typed c k)) → ⊥
+        no_object_typed contents.object k is e = cc
+        no_object_typed c k is e = cc

@@ -1,6 +1,9 @@
 -- To which node of a document, and over which positions, a route leads.
-use Rattle.std.proofs.Common.{◌≡◌, ◌≢◌, ◌⊎◌, ◌∙◌, ◌++◌, ◌<◌, ℕ, List, [], ◌∷◌, Option, Some, None, length, option_map, inl, inr, refl, sym, ap, subst}
+use Rattle.std.proofs.Common.{Err, IfOk, Ok, Result, ◌≡◌, ◌≢◌, ◌⊎◌, ◌∙◌, ◌++◌, ◌<◌, ℕ, List, [], ◌∷◌, Option, Some, None, length, option_map, inl, inr, refl, sym, ap, subst}
+use Rattle.std.specs.Prelude.{IfNone, IfSome}
+use Rattle.std.specs.declared.vec.Vec.{Vec}
 use Rattle.jsonc_text.specs.Documents.{Document}
+use Rattle.jsonc_text.specs.declared.edit.EditError.{EditError}
 use Rattle.jsonc_text.specs.Plain as plain
 use Rattle.jsonc_text.specs.Plain.{Plain}
 use Rattle.jsonc_tree.specs.Content as content
@@ -29,7 +32,6 @@ use Rattle.jsonc_cst.specs.Nodes.{number_of, object_prop_node, typed, typed_at, 
 use Rattle.jsonc_cst.specs.Readings.{value_under}
 use Rattle.jsonc_cst.proofs.Family.{number_of-typed}
 use Rattle.jsonc_parser.specs.declared.paths.which.Which.TheVariants.{First}
-use Rattle.jsonc_parser.specs.declared.patch.entry.Led.TheVariants as led
 use Rattle.jsonc_parser.specs.paths.Found.{Finds, FindsWhatShown}
 use Rattle.jsonc_parser.specs.paths.Settings.{At}
 use Rattle.jsonc_parser.specs.patch.Found.{IsOfShown}
@@ -165,3 +167,24 @@ pub of_no_property : {A : Type 0} (doc : CstRootNode A) (entry : CstNode) → ((
 of_no_property doc (nodes.Container (containers.ObjectProp x)) other = absurd (other x refl)
 of_no_property doc (nodes.Container x) other = refl
 of_no_property doc (nodes.Leaf x) other = refl
+
+module _ {A : Type 0} (doc : CstRootNode A) (tree : IsTree (nodes_of doc)) where
+  -- the value of the entry that tokens lead to
+  pub led_by_entry : (ts : List (List ℕ)) (entry : CstNode) → HasNode doc entry → IsOfShown doc (FindsEntry doc ts (Some entry)) → (r : Option CstNode) → r ≡ value_of_entry doc entry → IsLedTo doc (tokens ts) r
+  led_by_entry ts (nodes.Container (containers.ObjectProp x)) held found r e =
+      led_by_property doc tree ts (object_prop_node x) found (is_property (nodes_of doc) (object_prop_node x) held x refl) r e
+  led_by_entry ts (nodes.Container x) held found r e =
+      subst (IsLedTo doc (tokens ts)) (sym e) (led_by_element doc tree ts (nodes.Container x) found (no_property (nodes_of doc) (nodes.Container x) held (λ y same. cc)))
+  led_by_entry ts (nodes.Leaf x) held found r e =
+      subst (IsLedTo doc (tokens ts)) (sym e) (led_by_element doc tree ts (nodes.Leaf x) found (no_property (nodes_of doc) (nodes.Leaf x) held (λ y same. cc)))
+
+  -- the positions that were answered
+  pub path_led : (route : Route) (node : CstNode) → IsLedTo doc route (Some node) → (r : Result (Option (Vec ℕ A)) EditError) → IfOk r (λ found. IfSome found (λ path. IsAt (nodes_of doc) path.items (number_of node)))
+      → IfOk r (λ found. IfNone found ((path : List ℕ) → IsAt (nodes_of doc) path (number_of node) → ⊥)) → IfOk r (λ found. IsLedOver doc route (option_map (λ path. path.items) found))
+  path_led route node led (Ok (Some path)) at none = led_over doc tree route node led path.items at
+  path_led route node led (Ok None) at none = led_nowhere_else doc tree route node led none
+  path_led route node led (Err e) at none = tt
+
+  pub names_led : (all : List (List ℕ)) (r : Result (Option CstNode) EditError) → IfOk r (FindsWhatShown doc all) → IfOk r (IsLedTo doc (names all))
+  names_led all (Ok found) h = led_by_names doc tree all found h
+  names_led all (Err e) h = tt

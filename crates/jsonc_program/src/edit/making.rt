@@ -8,7 +8,7 @@ ghost use Rattle.jsonc_parser.specs.patch.Pointer.{tokens_of};
 ghost use Rattle.jsonc_engine.specs.declared.fault.Fault.TheVariants as told;
 ghost use Rattle.jsonc_program.specs.edit.Asked as asks;
 ghost use Rattle.jsonc_program.specs.edit.Asked.{Asked, asked_of};
-ghost use Rattle.jsonc_program.specs.edit.Faults.{FailsWhatShown, IsRefusedThere, needed};
+ghost use Rattle.jsonc_program.specs.edit.Faults.{FailsWhatShown, IsRefusedThere, is_nothing, needed};
 ghost use Rattle.jsonc_program.specs.edit.Making.{MakesWhatShown};
 ghost use Rattle.jsonc_program.specs.edit.Routes.{IsLedTo, LeadsOver, route_of};
 
@@ -27,6 +27,16 @@ fn nothing_there<A: Allocator>() -> EditFault<A>
     ensures { result ≡ EditFault.Engine told.NoSuchValue }
 {
     EditFault::Engine(Fault::NoSuchValue)
+}
+
+/// Whether it is the fault that nothing is there.
+fn is_nothing<A: Allocator>(fault: &EditFault<A>) -> bool
+    ensures { result ≡ is_nothing fault.now }
+{
+    match fault {
+        EditFault::Engine(Fault::NoSuchValue) => true,
+        _ => false,
+    }
 }
 
 /// Puts a value where a pointer leads.
@@ -59,7 +69,7 @@ fn make_one<A: Allocator + Copy>(
     };
     match run_unsorted(document, edits) {
         Ok(()) => Ok(()),
-        Err((_, error)) => Err(error),
+        Err(stop) => Err(stop.1),
     }
 }
 
@@ -206,10 +216,17 @@ fn remove_if_there<A: Allocator + Copy>(
     ensures made { (in_object : Bool) → OnOk result (MakesWhatShown (asks.remove (route_of way.now) in_object with_comments must_exist) document.old document.new) }
     ensures fails { (in_object : Bool) → IfErr result (FailsWhatShown (asks.remove (route_of way.now) in_object with_comments must_exist) document.old) }
 {
-    match remove(document, way, with_comments) {
-        Err(EditFault::Engine(Fault::NoSuchValue)) if !must_exist => Ok(()),
-        removed => removed,
+    let fault = match remove(document, way, with_comments) {
+        Ok(()) => return Ok(()),
+        Err(fault) => fault,
+    };
+    if must_exist {
+        return Err(fault);
     }
+    if is_nothing(&fault) {
+        return Ok(());
+    }
+    Err(fault)
 }
 
 /// Sorts the object there, or all objects in the value there.
