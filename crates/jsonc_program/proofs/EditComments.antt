@@ -97,7 +97,7 @@ module _ (old : List Node) (tree : IsTree old) (c : ℕ) (over : IsOver old 0 c)
   has_parent k o none =
       elim (either_over old 0 (suc k) c over o) [
         | inl below ↦ from_above below
-        | inr above ↦ from_below above
+        | inr higher ↦ from_below higher
       ]
     where
       from_above : IsOver old 0 (suc k) → ⊥

@@ -40,11 +40,10 @@ use Rattle.jsonc_run.proofs.lemmas.promise.Leads.{shown_are_documents}
 use Rattle.jsonc_cst.specs.declared.cst.CstRootNode.{CstRootNode}
 use Rattle.jsonc_cst.specs.declared.cst.node.CstContainerNode.{CstContainerNode}
 use Rattle.jsonc_cst.specs.declared.cst.node.CstNode.{CstNode}
-use Rattle.jsonc_cst.specs.declared.typed.removing.Removal.{Removal}
-use Rattle.jsonc_cst.specs.declared.typed.removing.Removal.TheVariants.{OfElement}
+use Rattle.jsonc_cst.specs.declared.cst.node.CstNullKeyword.{CstNullKeyword}
 use Rattle.jsonc_cst.specs.Document.{nodes_of, parent_of, tree_of, HasNode}
 use Rattle.jsonc_cst.specs.EntryComments.{comment_numbers, comments_at, is_entry_at, is_entry_in}
-use Rattle.jsonc_cst.specs.Nodes.{container_of, number_of, object_prop_node, typed, typed_container}
+use Rattle.jsonc_cst.specs.Nodes.{container_of, null_keyword_node, number_of, object_prop_node, typed, typed_container}
 use Rattle.jsonc_cst.specs.typed.Calls.{IsEntryRemoval}
 use Rattle.jsonc_cst.specs.typed.Clearing.{LosesComments, RemovesBlanks, RemovesComment, none_left, not_there, one_kept, one_removed}
 use Rattle.jsonc_cst.specs.typed.Removing.{AreClearedIfAny, IsTakenWithComments, is_name_or_value, removal_of}
@@ -60,6 +59,10 @@ use Rattle.jsonc_program.proofs.EditComments.{kind_still, over_still}
 use Rattle.jsonc_program.proofs.EditMade.{run_options}
 use Rattle.jsonc_program.proofs.EditRoutes.{no_property_value}
 
+-- a node that is removed as values are
+abbrev some_value : CstNode
+some_value = null_keyword_node (record { number = 0 })
+
 -- the last step of the way to a node
 module _ (ns : List Node) where
   LastOf : ℕ → ℕ → List ℕ → Type 0
@@ -74,7 +77,7 @@ module _ (ns : List Node) where
       ]
 
 -- values are elements, with what is removed with them
-value_kind : (o : Options) (c : Content) (below : OrderedTree) (v : Plain) → ValueOf o c below v → (n : ℕ) → removal_of (typed c n) ≡ OfElement
+value_kind : (o : Options) (c : Content) (below : OrderedTree) (v : Plain) → ValueOf o c below v → (n : ℕ) → removal_of (typed c n) ≡ removal_of some_value
 value_kind o _ below _ (values.object h) n = refl
 value_kind o _ below _ (values.array h) n = refl
 value_kind o _ below _ (values.string h) n = refl
@@ -92,7 +95,7 @@ record EntryThere (ns : List Node) (over : List ℕ) (node : CstNode) : Type 0 w
   at : IsEntryAt ns over (number_of node)
   outer : is_property (content_at ns container) ≡ false
   inside : IsOver ns 0 container
-  kind : removal_of node ≡ OfElement
+  kind : removal_of node ≡ removal_of some_value
   one : (p : List ℕ) → IsEntryAt ns p (number_of node) → p ≡ over
 
 module _ {A : Type 0} (old : CstRootNode A) (tree : IsTree (nodes_of old)) (d : Document) (shown : Shows d (tree_of old)) (value : CstNode) (held : HasNode old value) (over : List ℕ) (at : IsAt (nodes_of old) over (number_of value)) where
@@ -108,7 +111,7 @@ module _ {A : Type 0} (old : CstRootNode A) (tree : IsTree (nodes_of old)) (d : 
       let h = nodes_have_values {A = Unit {0}} d ns path n tree shown there in
       no_property_value d.options (content_at ns n) (row_below ns n) h.v is h.has
 
-  value_is : removal_of value ≡ OfElement
+  value_is : removal_of value ≡ removal_of some_value
   value_is =
       let h = nodes_have_values {A = Unit {0}} d ns over q tree shown at in
       ap removal_of (sym held.1) ∙ value_kind d.options (content_at ns q) (row_below ns q) h.v h.has q
@@ -226,7 +229,7 @@ module _ {A : Type 0} (old new : CstRootNode A) (tree : IsTree (nodes_of old)) (
           ap (λ o. is_entry_in before n o) there.said
           ∙ ap (λ b. is_element_at before n && (b && has_brackets before c)) no ∙ none (is_element_at before n) (has_brackets before c)
 
-  module _ (t : IsTakenWithComments OfElement before (nodes_of new) n c (entry_comments before n)) where
+  module _ (t : IsTakenWithComments (removal_of some_value) before (nodes_of new) n c (entry_comments before n)) where
     record Left : Type 0 where
       mid : Document
       mid_shown : Shows mid (ordered_tree t.without 0)

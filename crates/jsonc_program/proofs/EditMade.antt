@@ -47,7 +47,7 @@ first_of e = cc
 rest_of : {A : Type 0} {x y : A} {xs ys : List A} → x ∷ xs ≡ y ∷ ys → xs ≡ ys
 rest_of e = cc
 
-one_made_of : {A : Type 0} {d e : Document} {es : List (Edit A)} (edit : Edit A) → EditsTo d es e → es ≡ edit ∷ [] → OneMade d edit e
+pub one_made_of : {A : Type 0} {d e : Document} {es : List (Edit A)} (edit : Edit A) → EditsTo d es e → es ≡ edit ∷ [] → OneMade d edit e
 one_made_of edit (none_asked is) same = cc
 one_made_of {d = d} edit (one_asked order op place asks run rest) same =
     let first = first_of same in
@@ -55,7 +55,7 @@ one_made_of {d = d} edit (one_asked order op place asks run rest) same =
     record { order = order; op = op; asks = subst (λ x. Asks d.value (in_order order x) op) first asks; run = subst (λ k. Run d (op ∷ []) k) (sym last) run }
 
 -- the options behind one operation
-run_options : {d e : Document} {ops : List Operation} → Run d ops e → (op : Operation) → ops ≡ op ∷ [] → e.options ≡ options_behind d.options op
+pub run_options : {d e : Document} {ops : List Operation} → Run d ops e → (op : Operation) → ops ≡ op ∷ [] → e.options ≡ options_behind d.options op
 run_options (none_made is) op same = cc
 run_options {d = d} (one_made is options makes rest) op same =
     let first = first_of same in
@@ -74,7 +74,7 @@ module _ {A : Type 0} (old new : CstRootNode A) (edit : Edit A) where
   only_first zero next e = (refl, let same : next ≡ edit = cc in same)
   only_first (suc k) next e = absurd (nothing k e)
     where
-      nothing : (k : ℕ) → slice_get {A = Edit A} [] k ≡ Some next → ⊥
+      nothing : (k : ℕ) → slice_get [] k ≡ Some next → ⊥
       nothing k e = cc
 
   -- or refused

@@ -56,16 +56,16 @@ use Rattle.jsonc_engine.specs.declared.fault.Fault.TheVariants as told
 use Rattle.jsonc_program.specs.declared.edit.fault.EditFault.{EditFault}
 use Rattle.jsonc_program.specs.declared.edit.fault.EditFault.TheVariants as faults
 use Rattle.jsonc_program.specs.edit.Asked.{Asked, comment, put, remove, rename, replace, sort}
-use Rattle.jsonc_program.specs.edit.Faults.{FailsWhatShown, IsRefusedThere, IsWhyNot, is_nothing, needed, rename_fault}
+use Rattle.jsonc_program.specs.edit.Faults.{FailsWhatShown, IsRefusedThere, IsWhyNot, is_nothing, needed}
 use Rattle.jsonc_program.specs.edit.Making.{IsMadeIn, MadeBy, MakesWhatShown, MayStay}
 use Rattle.jsonc_program.specs.edit.Routes.{IsLedOver, IsLedTo, LeadsBy, LeadsNowhere, LeadsOver, LeadsWhere, Route}
 use Rattle.jsonc_program.specs.edit.Sorting.{HasSorted, SortsAt, SortsObjects, SortsWhatShown}
 use Rattle.jsonc_program.proofs.EditMade.{one_made_of, run_options, stands_there}
 use Rattle.jsonc_program.proofs.EditSorts.{over_place}
 
-all_one : {A : Type 0} {P : A → Type 0} {x : A} → P x → All P (x ∷ [])
-all_one h zero d low = h
-all_one h (suc k) d low = absurd (omega (arith, low))
+all_one : {A : Type 0} (P : A → Type 0) (x : A) → P x → All P (x ∷ [])
+all_one P x h zero d low = h
+all_one P x h (suc k) d low = absurd (omega (arith, low))
 
 -- nothing is there that has to be
 pub nothing_there : {A : Type 0} (doc : CstRootNode A) (route : Route) (asked : Asked) → IsLedOver doc route None → needed asked ≡ Some route → FailsWhatShown {A = A} asked doc (faults.Engine told.NoSuchValue)
@@ -84,7 +84,7 @@ module _ {A : Type 0} (old new : CstRootNode A) (route : Route) (path : Vec ℕ 
       → ((o : Options) → options_behind o (op path.items) ≡ o) → EditsTheText (tree_of old) (edit ∷ []) (tree_of new) → (d : Document) → Shows d (tree_of old) → Fits d.options edit → MadeThere op d
   made_there edit op asks behind edits d shown fits =
       let w = led d shown in
-      let e = edits d shown (all_one fits) in
+      let e = edits d shown (all_one (Fits d.options) edit fits) in
       let one = one_made_of edit e.2 refl in
       let run : Run d (op path.items ∷ []) e.0 = subst (λ it. Run d (it ∷ []) e.0) (asks d.value one.order one.op one.asks) one.run in
       record {
@@ -154,16 +154,6 @@ module _ {A : Type 0} (old new : CstRootNode A) (route : Route) (path : Vec ℕ 
   remove_refused in_object NestingDepthExceeded refused d shown = absurd (let deep : 512 < 0 = (refused d shown).0 in omega (arith, deep))
   remove_refused in_object NoSuchPlace refused d shown = absurd ((refused d shown).1 refl (stands d shown))
   remove_refused in_object why refused d shown = absurd (refused d shown).0
-
-  pub not_renamed : (name : String A) (why : EditError) → IsRefusedThere old (RenameProperty path name) why → FailsWhatShown {A = A} (rename route (chars_of name)) old (rename_fault why)
-  not_renamed name NoSuchPlace refused = no_property_there name refused
-  not_renamed name OutOfMemory refused = rename_refused name OutOfMemory (λ e. cc) refused
-  not_renamed name NestingDepthExceeded refused = rename_refused name NestingDepthExceeded (λ e. cc) refused
-  not_renamed name InvalidComment refused = rename_refused name InvalidComment (λ e. cc) refused
-  not_renamed name LineContinues refused = rename_refused name LineContinues (λ e. cc) refused
-  not_renamed name MissingBrackets refused = rename_refused name MissingBrackets (λ e. cc) refused
-  not_renamed name MissingName refused = rename_refused name MissingName (λ e. cc) refused
-  not_renamed name NotAnEntry refused = rename_refused name NotAnEntry (λ e. cc) refused
 
 -- what leaves where something has to be leaves where nothing has to be too
 pub removed_anyhow : {A : Type 0} (old new : CstRootNode A) (route : Route) (in_object with_comments must_exist : Bool) → MakesWhatShown (remove route in_object with_comments true) old new → MakesWhatShown (remove route in_object with_comments must_exist) old new
@@ -289,7 +279,7 @@ lacks_object doc tree route with_comments must_exist none d shown ms is = no_obj
         some_plain : {x y : Plain} → Some x ≡ Some y → x ≡ y
         some_plain e = cc
 
-        value_at_root : {a x : Plain} → Changed a a [] x x → a ≡ x
+        value_at_root : {a b x y : Plain} → Changed a b [] x y → a ≡ x
         value_at_root changes.itself = refl
 
         no_object_typed : (c : Content) (k : ℕ) → c ≡ object → None ≡ object_if (Some (typed c k)) → ⊥

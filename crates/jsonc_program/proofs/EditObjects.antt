@@ -86,20 +86,18 @@ module _ (ns : List Node) where
   all_asked [] all = refl
   all_asked (n ∷ xs) all = more_asked n xs (all 0 n refl) (all_asked xs (λ i m e. all (suc i) m e))
 
+  head_or_later : (n m : ℕ) (rest : List ℕ) → content_at ns n ≡ property → ((i : ℕ) → slice_get rest i ≡ Some m → content_at ns m ≡ property) → (i : ℕ) → slice_get (n ∷ rest) i ≡ Some m → content_at ns m ≡ property
+  head_or_later n m rest is later zero e = let same : n ≡ m = cc in subst (λ k. content_at ns k ≡ property) same is
+  head_or_later n m rest is later (suc i) e = later i e
+
   all_properties : (xs : List ℕ) (row : OrderedTree) → Shows ns xs row → AreProperties row → (i m : ℕ) → slice_get (filter (is_element_at ns) xs) i ≡ Some m → content_at ns m ≡ property
   all_properties _ _ shows_none all i m e = cc
   all_properties _ _ (shows_more {n = n} {rest = rest} {after = after} s r) all i m e =
+      let more : (j : ℕ) → slice_get (filter (is_element_at ns) rest) j ≡ Some m → content_at ns m ≡ property = λ j f. all_properties rest after r all.1 j m f in
       elim (cases_Bool (is_element_at ns n)) [
-        | inl is ↦ first (filter (is_element_at ns) (n ∷ rest)) (taken (is_element_at ns) n rest is) is i e
-        | inr other ↦ all_properties rest after r all.1 i m (subst (λ (l : List ℕ). slice_get l i ≡ Some m) (left (is_element_at ns) n rest other) e)
+        | inl is ↦ head_or_later n m (filter (is_element_at ns) rest) (all.0 is) more i (subst (λ (l : List ℕ). slice_get l i ≡ Some m) (taken (is_element_at ns) n rest is) e)
+        | inr other ↦ more i (subst (λ (l : List ℕ). slice_get l i ≡ Some m) (left (is_element_at ns) n rest other) e)
       ]
-    where
-      first : (l : List ℕ) → l ≡ n ∷ filter (is_element_at ns) rest → is_element_at ns n ≡ true → (i : ℕ) → slice_get l i ≡ Some m → content_at ns m ≡ property
-      first l same is i e = go i (subst (λ (k : List ℕ). slice_get k i ≡ Some m) same e)
-        where
-          go : (i : ℕ) → slice_get (n ∷ filter (is_element_at ns) rest) i ≡ Some m → content_at ns m ≡ property
-          go zero e = let same : n ≡ m = cc in subst (λ k. content_at ns k ≡ property) same (all.0 is)
-          go (suc i) e = all_properties rest after r all.1 i m e
 
 module _ (o : Options) (ns : List Node) (tree : IsTree ns) (sound : SoundTree o (ordered_tree ns 0)) (path : List ℕ) (c : ℕ) (at : IsAt ns path c) (is : content_at ns c ≡ object) where
   there : c < length ns

@@ -32,7 +32,6 @@ use Rattle.jsonc_cst.specs.Nodes.{number_of, object_prop_node, typed, typed_at, 
 use Rattle.jsonc_cst.specs.Readings.{value_under}
 use Rattle.jsonc_cst.proofs.Family.{number_of-typed}
 use Rattle.jsonc_parser.specs.declared.paths.which.Which.TheVariants.{First}
-use Rattle.jsonc_parser.specs.declared.patch.entry.Led.TheVariants as led
 use Rattle.jsonc_parser.specs.paths.Found.{Finds, FindsWhatShown}
 use Rattle.jsonc_parser.specs.paths.Settings.{At}
 use Rattle.jsonc_parser.specs.patch.Found.{IsOfShown}

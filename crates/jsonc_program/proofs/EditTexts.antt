@@ -1,10 +1,11 @@
 -- The line ends at the end of a text.
-use Rattle.std.proofs.Common.{◌≡◌, ◌∙◌, ◌++◌, ◌<◌, ℕ, zero, suc, List, [], ◌∷◌, ap, append-nil, arith, get_or, length, refl, sym}
+use Rattle.std.proofs.Common.{Err, IfOk, Ok, Result, ◌≡◌, ◌∙◌, ◌++◌, ◌<◌, ℕ, zero, suc, List, [], ◌∷◌, ap, append-nil, arith, get_or, length, refl, subst, sym}
 use Rattle.std.proofs.lemmas.List.{append_assoc}
 use Rattle.std.specs.List.{All}
-use Rattle.std.specs.Prelude.{IsTrue}
+use Rattle.std.specs.Prelude.{IsTrue, string_bytes}
+use Rattle.std.specs.declared.string.String.{String}
 use Rattle.jsonc_text.specs.Text.{is_line_end}
-use Rattle.jsonc_program.specs.edit.Words.{IsWithoutEnd}
+use Rattle.jsonc_program.specs.edit.Words.{IsCommentOf, IsWithoutEnd}
 
 all_none : {P : ℕ → Type 0} → All P []
 all_none k d low = absurd (omega (arith, low))
@@ -26,3 +27,8 @@ loses text rest c is e = (c ∷ [], e, all_more c [] is all_none)
 pub loses_more : (text rest s : List ℕ) (c : ℕ) → IsTrue (is_line_end c) → text ≡ rest ++ c ∷ [] → IsWithoutEnd rest s → IsWithoutEnd text s
 loses_more text rest s c is e (ends, more, all) =
     (ends ++ c ∷ [], e ∙ ap (λ l. l ++ c ∷ []) more ∙ append_assoc s ends (c ∷ []), all_both ends (c ∷ []) all (all_more c [] is all_none))
+
+-- a text that was made is the comment
+pub by_text : {A E : Type 0} (text : List ℕ) (r : Result (String A) E) (s : List ℕ) → IfOk r (λ made. string_bytes made ≡ s) → IsCommentOf text s → IfOk r (λ made. IsCommentOf text (string_bytes made))
+by_text text (Ok made) s is comment = subst (IsCommentOf text) (sym is) comment
+by_text text (Err e) s is comment = tt

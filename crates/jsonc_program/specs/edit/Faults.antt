@@ -54,6 +54,10 @@ abbrev pub IsFaultOfTarget : {A : Type 0} → Target → EditFault A → Type 0
 IsFaultOfTarget (At place) fault = IsFaultOfPlace place fault
 IsFaultOfTarget (Named name) fault = fault ≡ Engine (told.Edit OutOfMemory)
 
+abbrev pub IsFaultOfPlaceIf : {A : Type 0} → Option Place → EditFault A → Type 0
+IsFaultOfPlaceIf None fault = ⊥
+IsFaultOfPlaceIf (Some place) fault = IsFaultOfPlace place fault
+
 -- and of a JSON text: it is no document of the options, or has no value
 abbrev pub IsFaultOfJson : {A : Type 0} → Options → List ℕ → EditFault A → Type 0
 IsFaultOfJson o json (Engine (told.Argument error)) = IsRefusalOf o json error
@@ -71,8 +75,7 @@ IsFaultOfWords o (edits.Replace target json) fault = IsFaultOfTarget target faul
 IsFaultOfWords o (edits.Remove target with_comments must_exist) fault = IsFaultOfTarget target fault
 IsFaultOfWords o (edits.Rename place name) fault = IsFaultOfPlace place fault
 IsFaultOfWords o (edits.Comment place text is_after) fault = IsFaultOfPlace place fault ⊎ ((fault ≡ NoComments) × (o.comments ≡ false))
-IsFaultOfWords o (edits.Sort None is_recursive keeps_headers) fault = IsForMemory fault
-IsFaultOfWords o (edits.Sort (Some place) is_recursive keeps_headers) fault = IsFaultOfPlace place fault
+IsFaultOfWords o (edits.Sort at is_recursive keeps_headers) fault = IsFaultOfPlaceIf at fault
 
 -- and of the input
 abbrev pub IsFaultOfInput : {A : Type 0} → Options → List ℕ → EditFault A → Type 0
@@ -170,11 +173,6 @@ abbrev pub IsCause : {A : Type 0} → Options → Edit → List ℕ → EditFaul
 IsCause o edit input fault = IsFaultOfWords o edit fault ⊎ (IsFaultOfInput o input fault ⊎ IsFaultOfDocument o edit input fault)
 
 module _ {A : Type 0} where
-  -- the fault where the library has not renamed a property
-  abbrev pub rename_fault : EditError → EditFault A
-  rename_fault NoSuchPlace = NotProperty
-  rename_fault error = Engine (told.Edit error)
-
   -- nothing is there
   abbrev pub is_nothing : EditFault A → Bool
   is_nothing (Engine told.NoSuchValue) = true

@@ -58,7 +58,7 @@ side true = After
 
 -- the route to what is sorted: without a place, to the document's value
 abbrev pub IsRouteIf : Option Place → Route → Type 0
-IsRouteIf None route = route ≡ tokens []
+IsRouteIf None route = route ≡ names []
 IsRouteIf (Some place) route = IsRouteTo place route
 
 -- what the words of an edit ask for

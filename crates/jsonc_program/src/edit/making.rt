@@ -8,7 +8,7 @@ ghost use Rattle.jsonc_parser.specs.patch.Pointer.{tokens_of};
 ghost use Rattle.jsonc_engine.specs.declared.fault.Fault.TheVariants as told;
 ghost use Rattle.jsonc_program.specs.edit.Asked as asks;
 ghost use Rattle.jsonc_program.specs.edit.Asked.{Asked, asked_of};
-ghost use Rattle.jsonc_program.specs.edit.Faults.{FailsWhatShown, IsRefusedThere, is_nothing, needed, rename_fault};
+ghost use Rattle.jsonc_program.specs.edit.Faults.{FailsWhatShown, IsRefusedThere, is_nothing, needed};
 ghost use Rattle.jsonc_program.specs.edit.Making.{MakesWhatShown};
 ghost use Rattle.jsonc_program.specs.edit.Routes.{IsLedTo, LeadsOver, route_of};
 
@@ -27,23 +27,6 @@ fn nothing_there<A: Allocator>() -> EditFault<A>
     ensures { result ≡ EditFault.Engine told.NoSuchValue }
 {
     EditFault::Engine(Fault::NoSuchValue)
-}
-
-/// The library refused the edit.
-fn refused<A: Allocator>(error: EditError) -> EditFault<A>
-    ensures { result ≡ EditFault.Engine (told.Edit error) }
-{
-    EditFault::Engine(Fault::Edit(error))
-}
-
-/// Why a property was not renamed.
-fn not_renamed<A: Allocator>(error: EditError) -> EditFault<A>
-    ensures { result ≡ rename_fault error }
-{
-    match error {
-        EditError::NoSuchPlace => EditFault::NotProperty,
-        _ => EditFault::Engine(Fault::Edit(error)),
-    }
 }
 
 /// Whether it is the fault that nothing is there.
@@ -67,12 +50,8 @@ fn put_value<A: Allocator + Copy>(
 {
     match put(document, pointer, value, Over::Keep) {
         Ok(()) => Ok(()),
-        Err(PutError::OtherKind(number)) => Err(EditFault::Put(PutError::OtherKind(number))),
-        Err(PutError::NoSuchIndex(number)) => Err(EditFault::Put(PutError::NoSuchIndex(number))),
-        Err(PutError::AmbiguousToken(number)) => {
-            Err(EditFault::Put(PutError::AmbiguousToken(number)))
-        }
-        Err(PutError::Edit(error)) => Err(refused(error)),
+        Err(PutError::Edit(error)) => Err(EditFault::from(error)),
+        Err(error) => Err(EditFault::Put(error)),
     }
 }
 
@@ -106,7 +85,7 @@ fn path_there<A: Allocator + Copy>(
     match path_to(document, way) {
         Ok(Some(path)) => Ok(path),
         Ok(None) => Err(nothing_there()),
-        Err(error) => Err(refused(error)),
+        Err(error) => Err(EditFault::from(error)),
     }
 }
 
@@ -119,13 +98,10 @@ fn replace<A: Allocator + Copy>(
     ensures made { OnOk result (MakesWhatShown (asks.replace (route_of way.now) (plain value)) document.old document.new) }
     ensures fails { IfErr result (FailsWhatShown (asks.replace (route_of way.now) (plain value)) document.old) }
 {
-    let path = match path_there(document, way) {
-        Ok(path) => path,
-        Err(fault) => return Err(fault),
-    };
+    let path = path_there(document, way)?;
     match make_one(document, Edit::Replace(path, value)) {
         Ok(()) => Ok(()),
-        Err(error) => Err(refused(error)),
+        Err(error) => Err(EditFault::from(error)),
     }
 }
 
@@ -138,13 +114,11 @@ fn rename<A: Allocator + Copy>(
     ensures made { OnOk result (MakesWhatShown (asks.rename (route_of way.now) (chars_of name)) document.old document.new) }
     ensures fails { IfErr result (FailsWhatShown (asks.rename (route_of way.now) (chars_of name)) document.old) }
 {
-    let path = match path_there(document, way) {
-        Ok(path) => path,
-        Err(fault) => return Err(fault),
-    };
+    let path = path_there(document, way)?;
     match make_one(document, Edit::RenameProperty(path, name)) {
         Ok(()) => Ok(()),
-        Err(error) => Err(not_renamed(error)),
+        Err(EditError::NoSuchPlace) => Err(EditFault::NotProperty),
+        Err(error) => Err(EditFault::from(error)),
     }
 }
 
@@ -158,13 +132,10 @@ fn comment<A: Allocator + Copy>(
     ensures made { OnOk result (MakesWhatShown (asks.comment (route_of way.now) place (chars_of text)) document.old document.new) }
     ensures fails { IfErr result (FailsWhatShown (asks.comment (route_of way.now) place (chars_of text)) document.old) }
 {
-    let path = match path_there(document, way) {
-        Ok(path) => path,
-        Err(fault) => return Err(fault),
-    };
+    let path = path_there(document, way)?;
     match make_one(document, Edit::InsertComment(path, place, text)) {
         Ok(()) => Ok(()),
-        Err(error) => Err(refused(error)),
+        Err(error) => Err(EditFault::from(error)),
     }
 }
 
@@ -181,7 +152,7 @@ fn value_there<A: Allocator + Copy>(
     match value_at(document, way) {
         Ok(Some(value)) => Ok(value),
         Ok(None) => Err(nothing_there()),
-        Err(error) => Err(refused(error)),
+        Err(error) => Err(EditFault::from(error)),
     }
 }
 
@@ -194,13 +165,10 @@ fn remove_alone<A: Allocator + Copy>(
     ensures fails { (in_object : Bool) → IfErr result (FailsWhatShown (asks.remove (route_of way.now) in_object false true) document.old) }
     ensures stays { IsErrOf result (EditFault.Engine told.NoSuchValue) → document.new ≡ document.old }
 {
-    let path = match path_there(document, way) {
-        Ok(path) => path,
-        Err(fault) => return Err(fault),
-    };
+    let path = path_there(document, way)?;
     match make_one(document, Edit::Remove(path)) {
         Ok(()) => Ok(()),
-        Err(error) => Err(refused(error)),
+        Err(error) => Err(EditFault::from(error)),
     }
 }
 
@@ -213,14 +181,11 @@ fn remove_with_comments<A: Allocator + Copy>(
     ensures fails { (in_object : Bool) → IfErr result (FailsWhatShown (asks.remove (route_of way.now) in_object true true) document.old) }
     ensures stays { IsErrOf result (EditFault.Engine told.NoSuchValue) → document.new ≡ document.old }
 {
-    let value = match value_there(document, way) {
-        Ok(value) => value,
-        Err(fault) => return Err(fault),
-    };
+    let value = value_there(document, way)?;
     let entry = entry_of(document, value);
     match entry.remove_with_comments(document) {
         Ok(()) => Ok(()),
-        Err(error) => Err(refused(error)),
+        Err(error) => Err(EditFault::from(error)),
     }
 }
 
@@ -274,14 +239,11 @@ fn sort<A: Allocator + Copy>(
     ensures made { OnOk result (MakesWhatShown (asks.sort (route_of way.now) is_recursive keeps_headers) document.old document.new) }
     ensures fails { IfErr result (FailsWhatShown (asks.sort (route_of way.now) is_recursive keeps_headers) document.old) }
 {
-    let value = match value_there(document, way) {
-        Ok(value) => value,
-        Err(fault) => return Err(fault),
-    };
+    let value = value_there(document, way)?;
     if is_recursive {
         return match sort_inside(document, value, keeps_headers) {
             Ok(()) => Ok(()),
-            Err(error) => Err(refused(error)),
+            Err(error) => Err(EditFault::from(error)),
         };
     }
     let Some(object) = value.as_object() else {
@@ -289,7 +251,7 @@ fn sort<A: Allocator + Copy>(
     };
     match sort_object(document, object, keeps_headers) {
         Ok(()) => Ok(()),
-        Err(error) => Err(refused(error)),
+        Err(error) => Err(EditFault::from(error)),
     }
 }
 

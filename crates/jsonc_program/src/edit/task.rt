@@ -9,7 +9,7 @@ ghost use Rattle.jsonc_program.specs.edit.Words.{IsAskedBy, side};
 use crate::edit::comment::comment_of;
 use crate::edit::fault::EditFault;
 use crate::edit::place::Way;
-use crate::edit::words::{pointer_of, value_of, way_of, way_to};
+use crate::edit::words::{pointer_of, value_of, way_if, way_of, way_to};
 use jsonc_engine::command::Place;
 use jsonc_parser::cst::CstInputValue;
 use jsonc_parser::patch::Pointer;
@@ -165,7 +165,7 @@ pub(crate) fn task_of<A: Allocator + Copy>(
             is_recursive,
             keeps_headers,
         } => Ok(Task::Sort {
-            way: way_to(alloc, at.unwrap_or(Place::Pointer("")))?,
+            way: way_if(alloc, at)?,
             is_recursive,
             keeps_headers,
         }),

@@ -11,9 +11,10 @@ ghost use Rattle.jsonc_engine.specs.Argument.{AreNames, AreNoNames, IsFaultOfNam
 ghost use Rattle.jsonc_engine.specs.Argument.{strings, text_in};
 ghost use Rattle.jsonc_engine.specs.Finding.{IsPointer};
 ghost use Rattle.jsonc_engine.specs.declared.command.Place.{Place};
-ghost use Rattle.jsonc_program.specs.edit.Faults.{IsFaultOfJson, IsFaultOfPlace, IsFaultOfTarget};
+ghost use Rattle.jsonc_program.specs.edit.Faults.{IsFaultOfJson, IsFaultOfPlace, IsFaultOfPlaceIf};
+ghost use Rattle.jsonc_program.specs.edit.Faults.{IsFaultOfTarget};
 ghost use Rattle.jsonc_program.specs.edit.Routes.{route_of};
-ghost use Rattle.jsonc_program.specs.edit.Words.{IsJson, IsRouteOf, IsRouteTo};
+ghost use Rattle.jsonc_program.specs.edit.Words.{IsJson, IsRouteIf, IsRouteOf, IsRouteTo};
 
 use crate::edit::fault::EditFault;
 use crate::edit::place::Way;
@@ -195,5 +196,19 @@ pub(crate) fn way_of<A: Allocator + Copy>(
     match target {
         Target::At(place) => way_to(alloc, place),
         Target::Named(name) => way_by_name(alloc, name),
+    }
+}
+
+/// The way to what is sorted: without a place, to the document's value, to which no names lead.
+pub(crate) fn way_if<A: Allocator + Copy>(
+    alloc: A,
+    at: Option<Place<'_>>,
+) -> Result<Way<A>, EditFault<A>>
+    ensures way { IfOk result (λ way. IsRouteIf at.entry (route_of way)) }
+    ensures refused { IfErr result (IsFaultOfPlaceIf at.entry) }
+{
+    match at {
+        Some(place) => way_to(alloc, place),
+        None => Ok(Way::Names(Vec::new(alloc))),
     }
 }
