@@ -69,6 +69,7 @@ module _ (ns : List Node) where
   LastOf v n path = ((v ≡ n) × (path ≡ [])) ⊎ ((front : List ℕ) × (p : ℕ) × (i : ℕ) × LeadsTo ns p v front × StepsTo ns p i n × (path ≡ front ++ i ∷ []))
 
   last_of : {n v : ℕ} {path : List ℕ} → LeadsTo ns n v path → LastOf v n path
+  unfolding LastOf
   last_of paths.itself = inl (refl, refl)
   last_of {n = n} (paths.step {p = p} {i = i} {path = path} s l) =
       elim (last_of l) [
@@ -89,7 +90,7 @@ some_number : {x y : ℕ} → Some x ≡ Some y → x ≡ y
 some_number e = cc
 
 -- the entry n at the path, in its container
-record EntryThere (ns : List Node) (over : List ℕ) (node : CstNode) : Type 0 where
+pub record EntryThere (ns : List Node) (over : List ℕ) (node : CstNode) : Type 0 where
   container : ℕ
   said : parent_at ns (number_of node) ≡ Some container
   at : IsEntryAt ns over (number_of node)
@@ -185,10 +186,10 @@ loses_options (one_removed mid m number said is one removes shown more) =
     (rest.0 ∙ options_of removes, rest.1 ∙ value_of removes)
   where
     options_of : {n : ℕ} {x y : Document} → RemovesComment n x y → y.options ≡ x.options
-    options_of (front, before, comment, after, back, text, rest, line, whole, options, value, marks) = options
+    options_of (front, before, comment, after, back, text, rest, line, whole, options, value, ahead, behind, s, parted, marks, number) = options
 
     value_of : {n : ℕ} {x y : Document} → RemovesComment n x y → y.value ≡ x.value
-    value_of (front, before, comment, after, back, text, rest, line, whole, options, value, marks) = value
+    value_of (front, before, comment, after, back, text, rest, line, whole, options, value, ahead, behind, s, parted, marks, number) = value
 
 without_none : (p : ℕ → Bool) (s : List ℕ) → Without p s s
 without_none p [] = stretches.ended
@@ -218,7 +219,7 @@ module _ {A : Type 0} (old new : CstRootNode A) (tree : IsTree (nodes_of old)) (
       cc
 
   no_entry : is_array_or_object (content_at before c) ≡ false → entry_comments before n ≡ []
-  no_entry no = ap (λ b. cond b (comments_at before n) []) entry_so
+  no_entry closed = ap (λ b. cond b (comments_at before n) []) entry_so
     where
       none : (a b : Bool) → a && (false && b) ≡ false
       none true b = refl
@@ -227,7 +228,7 @@ module _ {A : Type 0} (old new : CstRootNode A) (tree : IsTree (nodes_of old)) (
       entry_so : is_entry_at before n ≡ false
       entry_so =
           ap (λ o. is_entry_in before n o) there.said
-          ∙ ap (λ b. is_element_at before n && (b && has_brackets before c)) no ∙ none (is_element_at before n) (has_brackets before c)
+          ∙ ap (λ b. is_element_at before n && (b && has_brackets before c)) closed ∙ none (is_element_at before n) (has_brackets before c)
 
   module _ (t : IsTakenWithComments (removal_of some_value) before (nodes_of new) n c (entry_comments before n)) where
     record Left : Type 0 where
@@ -256,12 +257,12 @@ module _ {A : Type 0} (old new : CstRootNode A) (tree : IsTree (nodes_of old)) (
     cleared : (m : Document) → Shows m (ordered_tree t.without 0) → Cleared m
     cleared m m_shown =
         elim (cases_Bool (is_array_or_object (content_at before c))) [
-          | inl yes ↦
-              let holds : IsTrue (is_array_or_object (content_at t.without c)) = ap is_array_or_object (kind_still before tree c there.inside t.without n there.said t.taken) ∙ yes in
+          | inl open ↦
+              let holds : IsTrue (is_array_or_object (content_at t.without c)) = ap is_array_or_object (kind_still before tree c there.inside t.without n there.said t.taken) ∙ open in
               let s = t.steps (over_still before tree c there.inside t.without n there.said t.taken) holds m m_shown in
               record { e = s.0; shows = s.1; loses = s.2 }
-          | inr no ↦
-              let none = no_entry no in
+          | inr closed ↦
+              let none = no_entry closed in
               let same : nodes_of new ≡ t.without = subst (λ l. AreClearedIfAny t.without (nodes_of new) c l) none t.cleared in
               let one : IsOne m = shown_are_documents (ordered_tree t.without 0) m m_shown in
               let shows : Shows m (tree_of new) = subst (λ l. Shows m (ordered_tree l 0)) (sym same) m_shown in

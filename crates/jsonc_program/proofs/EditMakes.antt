@@ -1,5 +1,5 @@
 -- What is made of a document where a route leads, and why it is not.
-use Rattle.std.proofs.Common.{◌≡◌, ◌≢◌, ◌∙◌, ◌⊎◌, ◌<◌, ◌≤◌, ◌+◌, ℕ, zero, suc, Bool, true, false, List, [], ◌∷◌, Option, Some, None, get_or, length, option_map, chars, inl, inr, refl, sym, ap, subst, arith}
+use Rattle.std.proofs.Common.{◌≡◌, ◌≢◌, ◌∙◌, ◌⊎◌, ◌<◌, ◌≤◌, ◌+◌, ℕ, zero, suc, Bool, true, false, List, [], ◌∷◌, Option, Some, None, get_or, is_some, length, option_map, chars, inl, inr, refl, sym, ap, subst, arith}
 use Rattle.std.proofs.lemmas.Bool.{false≢true}
 use Rattle.std.specs.List.{All}
 use Rattle.std.specs.Prelude.{string_bytes}
@@ -259,6 +259,10 @@ told_so doc route in_object with_comments must_exist fault must fails = subst (�
 pub told_of_another : {A : Type 0} (doc : CstRootNode A) (route : Route) (in_object with_comments must_exist : Bool) (fault : EditFault A) → is_nothing fault ≡ false → FailsWhatShown (remove route in_object with_comments true) doc fault
     → FailsWhatShown (remove route in_object with_comments must_exist) doc fault
 told_of_another doc route in_object with_comments must_exist fault other fails = told_anyhow doc route in_object with_comments must_exist fault fails (λ is. absurd (another_fault fault other is))
+
+pub none_of : {A : Type 0} (o : Option A) → is_some o ≡ false → o ≡ None
+none_of None e = refl
+none_of (Some q) e = absurd (false≢true (sym e))
 
 -- the document has no object
 pub lacks_object : {A : Type 0} (doc : CstRootNode A) (tree : IsTree (nodes_of doc)) (route : Route) (with_comments must_exist : Bool) → None ≡ object_if (value_under doc 0)

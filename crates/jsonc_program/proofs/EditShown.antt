@@ -2,6 +2,8 @@
 use Rattle.std.proofs.Common.{◌≡◌, ◌∙◌, ◌++◌, ℕ, List, [], ◌∷◌, Option, IsUtf8, Err, IfErr, IfOk, Ok, Result, chars, inl, inr, refl, sym, ap, subst}
 use Rattle.std.proofs.lemmas.Str.{IsUtf8-append, IsUtf8-nil}
 use Rattle.std.specs.List.{flat_map}
+use Rattle.std.specs.Prelude.{string_bytes}
+use Rattle.std.specs.declared.string.String.{String}
 use Rattle.jsonc_text.specs.Documents.{Document}
 use Rattle.jsonc_text.specs.Grammar.{IsDocument}
 use Rattle.jsonc_text.specs.Options.{Options}
@@ -59,6 +61,11 @@ module _ {A : Type 0} (o : Options) (input : List ℕ) (old : CstRootNode A) (sh
         let accepted : IsInputOf o (printed_of new) = accepts o (tree_of new) m.0 m.1 (m.2.options ∙ shows.1) (m.2.within (within_old small)) in
         let text : IsTextOf o (printed_of new) (Makes asked shows.0) = record { document = m.0; bytes = accepted.utf8; text = ap (λ d. d.text) m.1.is; so = m.2.makes; accepted = accepted } in
         (asked, is, of_it _ (subst (λ b. IsTextOf o b (Makes asked shows.0)) (sym prints) text))
+
+    pub edited_if : HasNoDeeperValue o input → MayBeWritten o asked → (new : CstRootNode A) → MakesWhatShown asked old new → {B E : Type 0} (r : Result (String B) E) → IfOk r (λ text. string_bytes text ≡ printed_of new)
+        → IfOk r (λ text. IsEdited o edit input (string_bytes text))
+    edited_if small may new makes (Ok text) prints = edited small may new makes (string_bytes text) prints
+    edited_if small may new makes (Err e) prints = tt
 
     -- why nothing was
     pub told : (fault : EditFault A) → FailsWhatShown asked old fault → IsCause o edit input fault

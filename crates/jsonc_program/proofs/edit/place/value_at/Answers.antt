@@ -1,5 +1,6 @@
 use Rattle.std.proofs.Common.{IfOk, ap, subst, sym}
-use Rattle.jsonc_program.specs.edit.Routes.{IsLedTo, route_of}
+use Rattle.jsonc_parser.specs.paths.Found.{names_of}
+use Rattle.jsonc_program.specs.edit.Routes.{IsLedTo, names, route_of}
 use Rattle.jsonc_program.proofs.EditRoutes.{names_led}
 use Rattle.jsonc_program.proofs.edit.place.value_at.Goals as goal
 
@@ -10,4 +11,4 @@ returns-in-Tokens-clause-led g c =
 pub returns-in-Names-clause-led : goal.returns-in-Names-clause-led
 returns-in-Names-clause-led g c =
     subst (λ r. IfOk c.find_at.result (IsLedTo c.args.document.now r)) (sym (ap route_of c.in-Names.is))
-    (names_led c.args.document.now c.args.document.now.tree.tree _ c.find_at.result c.find_at.ensures.found)
+    (subst (λ l. IfOk c.find_at.result (IsLedTo c.args.document.now (names (names_of l)))) c.deref.ensures.value (names_led c.args.document.now c.args.document.now.tree.tree _ c.find_at.result c.find_at.ensures.found))
