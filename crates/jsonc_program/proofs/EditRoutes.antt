@@ -70,9 +70,9 @@ module _ {A : Type 0} (doc : CstRootNode A) (tree : IsTree (nodes_of doc)) where
 
   -- no tokens lead to the document's value
   pub led_by_none : (ts : List (List ℕ)) → ts ≡ [] → (found : Option CstNode) → found ≡ value_under doc 0 → IsLedTo doc (tokens ts) found
-  led_by_none ts none None e d shown = λ path v leads.
+  led_by_none ts none None e = λ d shown path v leads.
       absurd (no_some (sym (begins_nothing doc tree e [] d shown) ∙ leads.1))
-  led_by_none ts none (Some node) e d shown =
+  led_by_none ts none (Some node) e = λ d shown.
       subst (λ l. LeadsWhere (tokens l) d (λ path. IsAt ns path (number_of node))) (sym none) (by_node d ns [] (number_of node) (begins_first doc tree node e d shown))
 
   -- tokens that lead to no entry lead to nothing
@@ -119,11 +119,11 @@ module _ {A : Type 0} (doc : CstRootNode A) (tree : IsTree (nodes_of doc)) where
       of_element other (inr array) = in_array array
 
     pub led_by_property : content_at ns (number_of entry) ≡ content.property → (found_value : Option CstNode) → found_value ≡ value_under doc (number_of entry) → IsLedTo doc (tokens ts) found_value
-    led_by_property property None e d shown = λ path v leads.
+    led_by_property property None e = λ d shown path v leads.
         let w = found d shown in
         let held = of_property d shown w property (kind_of d shown w w.to.v w.leads refl) None e in
         absurd (no_some held.1)
-    led_by_property property (Some node) e d shown =
+    led_by_property property (Some node) e = λ d shown.
         let w = found d shown in
         let held = of_property d shown w property (kind_of d shown w w.to.v w.leads refl) (Some node) e in
         at_value d shown w (number_of node) (subst (IsAt ns (over d shown w)) (number_same held.0 node (some_node held.1)) held.2)
@@ -135,8 +135,8 @@ module _ {A : Type 0} (doc : CstRootNode A) (tree : IsTree (nodes_of doc)) where
 
   -- what names lead to
   pub led_by_names : (all : List (List ℕ)) (found : Option CstNode) → FindsWhatShown doc all found → IsLedTo doc (names all) found
-  led_by_names all None found d shown = λ path v leads. found d shown v (subst (λ w. At w all v) (sym leads.1) (leads_at leads.2))
-  led_by_names all (Some node) found d shown =
+  led_by_names all None found = λ d shown path v leads. found d shown v (subst (λ w. At w all v) (sym leads.1) (leads_at leads.2))
+  led_by_names all (Some node) found = λ d shown.
       let w = found d shown in
       (w.path, w.v, (w.value, w.is, w.leads), w.at)
 
