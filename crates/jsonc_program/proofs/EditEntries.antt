@@ -257,8 +257,8 @@ module _ {A : Type 0} (old new : CstRootNode A) (tree : IsTree (nodes_of old)) (
     cleared : (m : Document) → Shows m (ordered_tree t.without 0) → Cleared m
     cleared m m_shown =
         elim (cases_Bool (is_array_or_object (content_at before c))) [
-          | inl opens ↦
-              let holds : IsTrue (is_array_or_object (content_at t.without c)) = ap is_array_or_object (kind_still before tree c there.inside t.without n there.said t.taken) ∙ opens in
+          | inl opened ↦
+              let holds : IsTrue (is_array_or_object (content_at t.without c)) = ap is_array_or_object (kind_still before tree c there.inside t.without n there.said t.taken) ∙ opened in
               let s = t.steps (over_still before tree c there.inside t.without n there.said t.taken) holds m m_shown in
               record { e = s.0; shows = s.1; loses = s.2 }
           | inr closed ↦
