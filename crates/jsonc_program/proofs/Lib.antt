@@ -1,0 +1,14 @@
+mod Jobs
+mod Changes
+mod EditTexts
+mod EditValues
+mod EditNames
+mod EditObjects
+mod EditRoutes
+mod EditShown
+mod EditMade
+mod EditSorts
+mod EditMakes
+mod Values
+mod EditComments
+mod EditEntries

@@ -1,0 +1,10 @@
+pub mod Arguments
+pub mod Dialect
+pub mod Jobs
+pub mod Lines
+pub mod Mark
+pub mod Place
+pub mod Raw
+pub mod Replacing
+pub mod Values
+pub mod edit

@@ -1,0 +1,34 @@
+//! The byte order mark of UTF-8, which the program passes over and keeps.
+ghost use Rattle.std.specs.Prelude.{◌≡◌, ◌++◌, IfOk, drop, take};
+ghost use Rattle.jsonc_program.specs.Mark.{mark_length};
+
+use std::alloc::{AllocError, Global};
+
+/// How many bytes the byte order mark at the front has: 3, or 0 where there is none.
+fn mark_len(bytes: &[u8]) -> usize
+    ensures { result ≡ mark_length bytes.now }
+{
+    match bytes {
+        [239, 187, 191, ..] => 3,
+        _ => 0,
+    }
+}
+
+/// The byte order mark at the front, or nothing where there is none, and what follows it.
+pub fn split_mark(bytes: &[u8]) -> (&[u8], &[u8])
+    ensures mark { result.0.now ≡ take (mark_length bytes.now) bytes.now }
+    ensures rest { result.1.now ≡ drop (mark_length bytes.now) bytes.now }
+{
+    let len = mark_len(bytes);
+    (&bytes[..len], &bytes[len..])
+}
+
+/// The two parts as one.
+pub(crate) fn joined(alloc: Global, first: &[u8], second: &[u8]) -> Result<Vec<u8>, AllocError>
+    ensures { IfOk result (λ bytes. bytes.items ≡ first.now ++ second.now) }
+{
+    let mut bytes = Vec::new(alloc);
+    bytes.extend_from_slice(first)?;
+    bytes.extend_from_slice(second)?;
+    Ok(bytes)
+}

@@ -1,0 +1,4 @@
+//! The tests, and what they share.
+
+mod edits;
+mod rows;
