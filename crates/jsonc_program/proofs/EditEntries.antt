@@ -166,6 +166,7 @@ module _ {A : Type 0} (old : CstRootNode A) (tree : IsTree (nodes_of old)) (d : 
       (object_prop_node (record { number = r }), sym (property_is r (element_parent ns tree r 1 q holds.1) holds.0), as_property front p i r there object element holds is)
 
   pub entry_there : (node : CstNode) × (node ≡ entry_of old value) × EntryThere ns over node
+  unfolding LastOf
   entry_there =
       elim (last_of ns at.2) [
         | inl whole ↦
@@ -269,7 +270,7 @@ module _ {A : Type 0} (old new : CstRootNode A) (tree : IsTree (nodes_of old)) (
               record {
                 e = m;
                 shows = shows;
-                loses = subst (λ l. LosesComments c (nodes_of new) m t.without m l) (sym none) (none_left one (without_none is_blank m.text, refl, refl, refl) one shows);
+                loses = subst (λ l. LosesComments c (nodes_of new) m t.without m l) (sym none) (none_left one (without_none is_blank m.text, refl, (refl, refl)) one shows);
               }
         ]
 
@@ -314,10 +315,10 @@ removed_with_comments old new tree route value held led in_object removal d show
 -- why it has not
 pub kept_with_comments : {A : Type 0} (old new : CstRootNode A) → IsTree (nodes_of old) → (route : Route) (value : CstNode) → HasNode old value → IsLedTo old route (Some value) → (in_object : Bool) (why : EditError)
     → IsEntryRemoval old new (entry_of old value) (Err why) → FailsWhatShown {A = A} (remove route in_object true true) old (faults.Engine (told.Edit why))
-kept_with_comments old new tree route value held led in_object why removal d shown =
+kept_with_comments {A = A} old new tree route value held led in_object why removal d shown =
     let w = led d shown in
     let there = entry_there old tree d shown value held w.0 w.3 in
     let entry = there.2 in
     let removed = subst (λ k. IsEntryRemoval old new k (Err why)) (sym there.1) removal in
     let memory : why ≡ OutOfMemory = (removed.removed (no_name old new tree d shown w.0 there.0 entry)).memory d.options shown.sound (above entry.said entry.inside) in
-    subst (λ e. IsWhyNot (remove route in_object true true) (faults.Engine (told.Edit e)) d) (sym memory) tt
+    subst (λ e. IsWhyNot {A = A} (remove route in_object true true) (faults.Engine (told.Edit e)) d) (sym memory) tt
