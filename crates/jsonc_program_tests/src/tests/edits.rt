@@ -122,21 +122,27 @@ fn outcome_of_cause<A: Allocator + Copy>(heap: A, row: &Row) -> Outcome {
         return Outcome::Other;
     };
     match edited(heap, &ParseOptions::default(), edit, input.as_bytes()) {
-        Ok(_) => Outcome::Other,
+        Ok(_text) => Outcome::Other,
         Err(fault) if prints(&fault, line) => Outcome::Answered,
         Err(fault) if is_of_memory(&fault) => Outcome::Wanted,
         Err(_) => Outcome::Other,
     }
 }
 
+/// What came of the failing edit of a number.
+fn cause_at<A: Allocator + Copy>(heap: A, number: usize) -> Outcome {
+    match TOLD.get(number) {
+        Some(row) => outcome_of_cause(heap, row),
+        None => Outcome::Other,
+    }
+}
+
 #[test]
 fn a_cause_is_told_or_want_of_memory(rt: HostRuntime) -> Result<(), Fail> {
-    for told in &TOLD {
+    for number in 0..TOLD.len() {
         assert!(rt;
-            answers_in_turn(rt.alloc(), |heap| outcome_of_cause(heap, told)),
-            "{:?} {:?}",
-            told.0,
-            told.1
+            answers_in_turn(rt.alloc(), |heap| cause_at(heap, number)),
+            "fault {number}"
         );
     }
     Ok(())
