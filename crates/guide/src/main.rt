@@ -3,7 +3,6 @@
 #![tactic(auto)]
 
 mod files;
-mod mends;
 mod migrate;
 mod patches;
 mod read;
@@ -144,7 +143,6 @@ fn main(rt: HostRuntime) -> anyhow::Result<ExitCode> {
     }
     read::readings(&rt)?;
     walk::walks(&rt)?;
-    mends::mends(&rt)?;
     patches::patches(&rt)?;
     Ok(ExitCode::SUCCESS)
 }

@@ -228,7 +228,7 @@ static FIRST: [(&[&str], &str); 8] = [
         &["get", "@"],
         "jsonc: path: Unexpected token on line 1 column 1",
     ),
-    (&["get", " /**/"], "jsonc: path is not a list of strings"),
+    (&["get", "/**/"], "jsonc: path is not a list of strings"),
     (&["drop", "[1]"], "jsonc: path is not a list of strings"),
     (
         &["put", "@", "@"],

@@ -1,4 +1,0 @@
-pub mod Boundaries
-pub mod Repeats
-pub mod KindRules
-pub mod Walk

@@ -1,6 +1,0 @@
-pub mod Findings
-pub mod Lines
-pub mod Linted
-pub mod Messages
-pub mod SeenNames
-pub mod Steps

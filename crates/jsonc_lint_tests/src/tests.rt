@@ -1,5 +1,0 @@
-//! The tests, and what they share.
-
-mod findings;
-mod lines;
-mod memory;

@@ -1,2 +1,0 @@
-mod KnownPlaces
-mod Rewriting

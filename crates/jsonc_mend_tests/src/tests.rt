@@ -1,3 +1,0 @@
-mod mended;
-mod rows;
-mod told;

@@ -1,4 +1,0 @@
-pub mod Laws
-pub mod Mends
-pub mod Places
-pub mod Told

@@ -1,4 +1,0 @@
-//! The tests, and what they share.
-
-mod edits;
-mod rows;

@@ -1,0 +1,5 @@
+pub mod Growing
+pub mod Making
+pub mod Showing
+pub mod Reading
+pub mod Collapsed
