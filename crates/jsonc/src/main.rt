@@ -3,6 +3,7 @@
 
 mod findings;
 mod inputs;
+mod mends;
 mod runs;
 mod telling;
 

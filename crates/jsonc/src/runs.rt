@@ -1,6 +1,7 @@
 //! Runs of a command on each of its inputs.
-use crate::findings::{find_all, of_check, of_lint};
+use crate::findings::{find_all, of_all, of_check, of_lint};
 use crate::inputs::{CLOSED, REFUSED, read_input, read_or_tell, text_of, write_out};
+use crate::mends::tell_mends;
 use crate::telling::{
     tell_argument, tell_cause, tell_fault, tell_file_error, tell_json, tell_not_durable,
     tell_not_utf8, tell_place,
@@ -9,15 +10,19 @@ use jsonc_engine::command::Command;
 use jsonc_engine::engine::run_with;
 use jsonc_engine::fault::Fault;
 use jsonc_files::{Edited, FileError, replace};
+use jsonc_format::Style;
 use jsonc_host::HostFolder;
+use jsonc_lint::shown_name;
 use jsonc_parser::ParseOptions;
 use jsonc_program::argument::{argument_of, check_argument};
 use jsonc_program::change::Replacing;
 use jsonc_program::dialect::options_of;
 use jsonc_program::edit::editing::Editing;
 use jsonc_program::edit::{EditFault, edited};
+use jsonc_program::formatting::{Formatting, formatted};
 use jsonc_program::job::{Job, job_of};
 use jsonc_program::mark::split_mark;
+use jsonc_program::mending::{Mending, mends_of};
 use jsonc_program::operation::told_of_patch;
 use jsonc_program::value::value_text;
 use jsonc_program::way::told_of_way;
@@ -164,7 +169,13 @@ fn made(work: &Work<'_>, input: &[u8]) -> Result<Option<String>, EditFault<Globa
                 Err(fault) => Err(fault),
             }
         }
-        Job::Check | Job::Lint { .. } => Ok(None),
+        Job::Format { style, .. } => {
+            match formatted(work.rt.alloc(), &work.options, &style, input) {
+                Ok(text) => Ok(Some(text)),
+                Err(fault) => Err(fault),
+            }
+        }
+        Job::Check | Job::CheckAll { .. } | Job::Lint { .. } | Job::Mend => Ok(None),
     }
 }
 
@@ -180,6 +191,56 @@ fn run_to_output(work: &Work<'_>, input: Input<'_>) -> End {
             ended(write_out(work.rt, mark, text.as_str().as_bytes()))
         }
         Ok(None) => ended(0),
+        Err(fault) => refuse(work, input, &fault, &bytes),
+    }
+}
+
+/// Writes the name of an input, and answers the status.
+fn name_input(rt: &HostRuntime, input: Input<'_>) -> u8 {
+    let line = match input {
+        Input::File(name) => match shown_name(rt.alloc(), name) {
+            Ok(shown) => format!(in rt.alloc(); "{shown}\n"),
+            Err(error) => Err(error),
+        },
+        Input::Standard => format!(in rt.alloc(); "-\n"),
+    };
+    match line {
+        Ok(line) => write_out(rt, &[], line.as_str().as_bytes()),
+        Err(_) => {
+            tell_cause(rt, input, "Out of memory");
+            REFUSED
+        }
+    }
+}
+
+/// Names an input that would change if it were formatted.
+fn check_format(work: &Work<'_>, input: Input<'_>, style: &Style) -> End {
+    let Some(bytes) = read_or_tell(work.rt, input) else {
+        return ended(REFUSED);
+    };
+    let (_, rest) = split_mark(&bytes);
+    match formatted(work.rt.alloc(), &work.options, style, rest) {
+        Ok(text) => {
+            if text.as_str().as_bytes() == rest {
+                return ended(0);
+            }
+            ended(name_input(work.rt, input).max(REFUSED))
+        }
+        Err(fault) => refuse(work, input, &fault, &bytes),
+    }
+}
+
+/// Writes the mended text of an input, and tells its faults.
+fn mend_to_output(work: &Work<'_>, input: Input<'_>) -> End {
+    let Some(bytes) = read_or_tell(work.rt, input) else {
+        return ended(REFUSED);
+    };
+    let (mark, rest) = split_mark(&bytes);
+    match mends_of(work.rt.alloc(), &work.options, rest) {
+        Ok(mends) => {
+            tell_mends(work.rt, input, mends.list());
+            ended(write_out(work.rt, mark, mends.text().as_bytes()))
+        }
         Err(fault) => refuse(work, input, &fault, &bytes),
     }
 }
@@ -232,6 +293,38 @@ fn of_edits(
     }
 }
 
+/// Formats a file, in its place.
+fn format_in_place(work: &Work<'_>, name: &str, style: Style) -> End {
+    let alloc = work.rt.alloc();
+    let options = work.options.copied();
+    let mut folder = HostFolder::new(work.rt, name);
+    let mut change = Formatting {
+        alloc,
+        options,
+        style,
+    };
+    let replaced = replace(alloc, &mut folder, &mut change);
+    end_in_place(work, Input::File(name), replaced)
+}
+
+/// Mends a file, in its place, and tells its faults.
+fn mend_in_place(work: &Work<'_>, name: &str) -> End {
+    let alloc = work.rt.alloc();
+    let options = work.options.copied();
+    let found = None;
+    let mut folder = HostFolder::new(work.rt, name);
+    let mut change = Mending {
+        alloc,
+        options,
+        found,
+    };
+    let replaced = replace(alloc, &mut folder, &mut change);
+    if let Some(mends) = &change.found {
+        tell_mends(work.rt, Input::File(name), mends.list());
+    }
+    end_in_place(work, Input::File(name), replaced)
+}
+
 /// Runs on a file, in its place.
 fn run_in_place(work: &Work<'_>, name: &str) -> End {
     let alloc = work.rt.alloc();
@@ -256,7 +349,9 @@ fn run_in_place(work: &Work<'_>, name: &str) -> End {
             let replaced = replace(alloc, &mut folder, &mut change);
             end_in_place(work, Input::File(name), replaced)
         }
-        Job::Get { .. } | Job::Check | Job::Lint { .. } => ended(WORDS),
+        Job::Format { style, .. } => format_in_place(work, name, style),
+        Job::Mend => mend_in_place(work, name),
+        Job::Get { .. } | Job::Check | Job::CheckAll { .. } | Job::Lint { .. } => ended(WORDS),
     }
 }
 
@@ -264,7 +359,14 @@ fn run_in_place(work: &Work<'_>, name: &str) -> End {
 fn run_one(work: &Work<'_>, input: Input<'_>) -> End {
     match input {
         Input::File(name) if work.in_place => run_in_place(work, name),
-        _ => run_to_output(work, input),
+        _ => match work.job {
+            Job::Format {
+                style,
+                only_checks: true,
+            } => check_format(work, input, &style),
+            Job::Mend => mend_to_output(work, input),
+            _ => run_to_output(work, input),
+        },
     }
 }
 
@@ -285,6 +387,7 @@ fn run_all(work: &Work<'_>, files: &[Input<'_>]) -> u8 {
 fn run_work(work: &Work<'_>, files: &[Input<'_>]) -> u8 {
     match work.job {
         Job::Check => find_all(work.rt, &work.options, of_check(), files),
+        Job::CheckAll { format } => find_all(work.rt, &work.options, of_all(format), files),
         Job::Lint {
             format,
             no_trailing_commas,
@@ -318,7 +421,7 @@ fn run_with_text(rt: &HostRuntime, call: &Call<'_>, source: Text<'_>, text: &str
         job,
         text,
         source,
-        writes_document: call.command.name().works_in_place(),
+        writes_document: call.command.writes_document(),
         in_place: call.in_place,
     };
     if call.files.is_empty() {

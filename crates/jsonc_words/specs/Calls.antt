@@ -4,9 +4,9 @@ use Rattle.std.specs.List.{list_any}
 use Rattle.std.specs.Option.{option_map_or}
 use Rattle.clap.specs.declared.error.kind.ErrorKind.{ErrorKind}
 use Rattle.clap.specs.declared.error.kind.ErrorKind.TheVariants.{DisplayHelp, DisplayVersion, OutOfMemory}
-use Rattle.jsonc_words.specs.Commands.{name_of, text_in}
+use Rattle.jsonc_words.specs.Commands.{text_in}
+use Rattle.jsonc_words.specs.Commands as commands
 use Rattle.jsonc_words.specs.Inputs.{is_standard, reads_standard}
-use Rattle.jsonc_words.specs.Names.{works_in_place}
 use Rattle.jsonc_words.specs.declared.call.Call.{Call}
 use Rattle.jsonc_words.specs.declared.call.Input.{Input}
 use Rattle.jsonc_words.specs.declared.rules.Misuse.{Misuse}
@@ -18,7 +18,7 @@ has_standard files = list_any is_standard files
 
 -- whether the command writes the document
 abbrev pub writes_document : Call → Bool
-writes_document call = works_in_place (name_of call.command)
+writes_document call = commands.writes_document call.command
 
 -- whether `-f -` gives an argument of the command
 abbrev pub takes_standard : Call → Bool

@@ -1,6 +1,6 @@
 //! What the words ask for.
 ghost use Rattle.std.specs.Prelude.{◌≡◌};
-ghost use Rattle.jsonc_words.specs.Commands.{name_of, text_in};
+ghost use Rattle.jsonc_words.specs.Commands.{name_of, text_in, writes_document};
 ghost use Rattle.jsonc_words.specs.Inputs.{IsInput, is_standard, reads_standard};
 
 use crate::name::CommandName;
@@ -77,12 +77,29 @@ pub enum Format {
     Json,
 }
 
+/// One level of indent.
+#[derive(Clone, Copy, Debug)]
+pub enum Indent {
+    /// So many spaces, eight at most.
+    Spaces(u8),
+    Tab,
+}
+
+/// What ends a line.
+#[derive(Clone, Copy, Debug)]
+pub enum LineEnd {
+    Lf,
+    CrLf,
+}
+
 /// A command with its arguments and its own options. A place is a word as it is given: a JSON Pointer, or an array of
 /// names.
 #[derive(Clone, Copy, Debug)]
 pub enum Command<'a> {
     Check {
         format: Format,
+        /// Whether all faults are told, and not the first alone.
+        finds_all: bool,
     },
     Print,
     Set {
@@ -134,6 +151,14 @@ pub enum Command<'a> {
         format: Format,
         no_trailing_commas: bool,
     },
+    Format {
+        indent: Option<Indent>,
+        line_end: Option<LineEnd>,
+        expand: bool,
+        /// Whether it is told which files would change, and nothing is written.
+        only_checks: bool,
+    },
+    Mend,
 }
 
 impl<'a> Command<'a> {
@@ -157,6 +182,18 @@ impl<'a> Command<'a> {
             Command::Merge { .. } => CommandName::Merge,
             Command::Json => CommandName::Json,
             Command::Lint { .. } => CommandName::Lint,
+            Command::Format { .. } => CommandName::Format,
+            Command::Mend => CommandName::Mend,
+        }
+    }
+
+    /// Whether the command writes the document, so that `--in-place` may be given.
+    pub fn writes_document(self) -> bool
+        ensures { result ≡ writes_document self.entry }
+    {
+        match self {
+            Command::Format { only_checks, .. } => !only_checks,
+            _ => self.name().works_in_place(),
         }
     }
 

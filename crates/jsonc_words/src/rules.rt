@@ -56,7 +56,7 @@ fn takes_standard(call: &Call<'_>) -> bool
 pub(crate) fn misuse_of(call: &Call<'_>) -> Option<Misuse>
     ensures { MatchOption result (IsAllowed call.now) (λ misuse. Breaks misuse call.now) }
 {
-    let writes = call.command.name().works_in_place();
+    let writes = call.command.writes_document();
     let count = call.files.len();
     let has_standard = has_standard(&call.files);
     if call.in_place {

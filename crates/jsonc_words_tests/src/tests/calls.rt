@@ -3,9 +3,19 @@ use super::said;
 use std::test::Fail;
 
 /// Each line has words, and the call that they ask for.
-const ROWS: &str = r#"check => Check { format: Text } All []
-check a.json b.json => Check { format: Text } All [File("a.json"), File("b.json")]
-check --format json - => Check { format: Json } All [Standard]
+const ROWS: &str = r#"check => Check { format: Text, finds_all: false } All []
+check a.json b.json => Check { format: Text, finds_all: false } All [File("a.json"), File("b.json")]
+check --format json - => Check { format: Json, finds_all: false } All [Standard]
+check --all f => Check { format: Text, finds_all: true } All [File("f")]
+check --format json --all => Check { format: Json, finds_all: true } All []
+format => Format { indent: None, line_end: None, expand: false, only_checks: false } All []
+format -i f g => Format { indent: None, line_end: None, expand: false, only_checks: false } All in place [File("f"), File("g")]
+format --indent 0 f => Format { indent: Some(Spaces(0)), line_end: None, expand: false, only_checks: false } All [File("f")]
+format --indent 8 --line-end lf => Format { indent: Some(Spaces(8)), line_end: Some(Lf), expand: false, only_checks: false } All []
+format --indent=tab --line-end=crlf --expand => Format { indent: Some(Tab), line_end: Some(CrLf), expand: true, only_checks: false } All []
+format --check f g - => Format { indent: None, line_end: None, expand: false, only_checks: true } All [File("f"), File("g"), Standard]
+mend => Mend All []
+mend -i f g => Mend All in place [File("f"), File("g")]
 print => Print All []
 print -i a.json b.json => Print All in place [File("a.json"), File("b.json")]
 set theme "dark" => Set { name: "theme", value: Value { text: Word("\"dark\""), is_string: false } } All []
