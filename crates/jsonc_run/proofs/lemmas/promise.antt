@@ -48,6 +48,9 @@ pub mod NoneLeft
 pub mod NoneMissing
 pub mod Hexadecimal
 pub mod LinesInside
+pub mod AlongRows
+pub mod UniquePlaces
+pub mod LacksLines
 pub mod EntriesHeld
 pub mod CommasBehind
 pub mod CommentsCome

@@ -6,7 +6,7 @@ use Rattle.jsonc_text.specs.Documents.{Document}
 use Rattle.jsonc_text.specs.declared.edit.Place.{Place}
 use Rattle.jsonc_text.specs.declared.edit.Place.TheVariants.{Above, After}
 use Rattle.jsonc_run.specs.texts.Paths.{Entry}
-use Rattle.jsonc_run.specs.texts.Stretches.{is_space, IsLineEnd, AreBlanks, InLine, Come}
+use Rattle.jsonc_run.specs.texts.Stretches.{is_space, HasLine, AreBlanks, InLine, Come}
 
 -- Between front and back the comment, one whole comment, comes, with blanks before and behind; all before and all behind stays, to the character. The document says
 -- the same, and of its literals and comments this one alone has come.
@@ -20,14 +20,10 @@ pub record ComesBetween (comment before behind front back : List ℕ) (d e : Doc
   pub mark : List ℕ
   pub marks : Come (Mark.comment mark ∷ []) (comment ++ (behind ++ back)) (behind ++ back) d e
 
--- a line ends in the stretch
-abbrev pub EndsLine : List ℕ → Type 0
-EndsLine s = (x line y : List ℕ) × (s ≡ x ++ (line ++ y)) × IsLineEnd line
-
 -- it comes above the entry at the path, before which blanks alone stand from there on, and behind the comment its line ends
 abbrev pub ComesAbove : List ℕ → List ℕ → Document → Document → Type 0
 ComesAbove path comment d e = (before behind front blanks rest back : List ℕ) × ComesBetween comment before behind front (blanks ++ rest) d e
-    × AreBlanks blanks × Entry path d.options d.text rest back × EndsLine behind
+    × AreBlanks blanks × Entry path d.options d.text rest back × HasLine behind
 
 -- from t to r stand blanks that end no line, and comments
 pub data OnLine : List ℕ → List ℕ → Type 0 where

@@ -1,12 +1,12 @@
 -- What is said of a text when an entry comes into a row, or when the row is put on several lines.
-use Rattle.std.specs.Prelude.{ℕ, ◌≡◌, ◌≢◌, ◌⊎◌, ◌||◌, ◌==◌, List, [], ◌∷◌, ◌++◌, length, IsTrue}
+use Rattle.std.specs.Prelude.{ℕ, ◌≡◌, ◌≢◌, ◌⊎◌, Bool, true, false, List, [], ◌∷◌, ◌++◌, length, IsTrue}
 use Rattle.jsonc_text.specs.Options.{Options}
 use Rattle.jsonc_text.specs.Text.{is_line_end}
 use Rattle.jsonc_text.specs.Gaps.{Gap, is_blank}
 use Rattle.jsonc_run.specs.texts.Paths.{Kind, an_array, an_object, opening, closing, IsEntry, Value, Entry}
 use Rattle.jsonc_run.specs.texts.Entries.{Named, of, Becomes}
 use Rattle.jsonc_text.specs.Documents.{Document}
-use Rattle.jsonc_run.specs.texts.Stretches.{IsLineEnd, AreBlanks, is_space, InLine, Without, written, Come, Inside}
+use Rattle.jsonc_run.specs.texts.Stretches.{IsLineEnd, HasLine, AreBlanks, AreSpaces, is_space, InLine, Without, written, Come, Inside}
 use Rattle.jsonc_run.specs.texts.Layout.{IsLaidEntry}
 
 -- blanks alone come, and leave, and of those that leave none ends a line
@@ -28,15 +28,17 @@ HasLineEnd path e = (kind : Kind) × (u r x y : List ℕ) × (c : ℕ) × Value 
 abbrev pub NoCommaComes : Options → List ℕ → Type 0
 NoCommaComes o t = (r : List ℕ) → Gap o t (0x2C ∷ r) → ⊥
 
--- blanks leave a container directly behind its first bracket, or before its last one, where others may stand between
+-- Blanks leave a container directly behind its first bracket, or before its last one, where others may stand between: spaces, or a line ends among the others.
 pub data Trims (kind : Kind) : List ℕ → List ℕ → Type 0 where
-  behind_first : (front s gone back : List ℕ) → AreBlanks s → AreBlanks gone → Trims kind (front ++ opening kind ∷ (s ++ (gone ++ back))) (front ++ opening kind ∷ (s ++ back))
-  before_last : (front gone s back : List ℕ) → AreBlanks gone → AreBlanks s → Trims kind (front ++ (gone ++ (s ++ closing kind ∷ back))) (front ++ (s ++ closing kind ∷ back))
+  behind_first : (front s gone back : List ℕ) → AreBlanks s → AreBlanks gone → AreSpaces gone ⊎ HasLine s
+      → Trims kind (front ++ opening kind ∷ (s ++ (gone ++ back))) (front ++ opening kind ∷ (s ++ back))
+  before_last : (front gone s back : List ℕ) → AreBlanks gone → AreBlanks s → AreSpaces gone ⊎ HasLine s
+      → Trims kind (front ++ (gone ++ (s ++ closing kind ∷ back))) (front ++ (s ++ closing kind ∷ back))
 
--- an object may be put on several lines before
-abbrev pub Spreads : Kind → List ℕ → List ℕ → Type 0
-Spreads an_array x y = y ≡ x
-Spreads an_object x y = Reflows x y
+-- an object in which no line ends may be put on several lines before
+abbrev pub Spreads : Kind → List ℕ → Document → List ℕ → Type 0
+Spreads an_array path d y = y ≡ d.text
+Spreads an_object path d y = (y ≡ d.text) ⊎ ((HasLineEnd path d → ⊥) × Reflows d.text y)
 
 -- the text, or a comma has come into it directly behind an entry, which trivia on its line alone follow; and then r
 pub data Led (o : Options) (kind : Kind) (r : List ℕ) : List ℕ → List ℕ → Type 0 where
@@ -52,23 +54,29 @@ StartsLine s = (line t : List ℕ) × (s ≡ line ++ t) × IsLineEnd line
 abbrev pub EndsLine : List ℕ → Type 0
 EndsLine s = (blanks r : List ℕ) × (s ≡ blanks ++ r) × AreBlanks blanks × InLine blanks × StartsLine r
 
+-- between brackets, behind the first of which u stands, t stands directly behind that, or directly behind a comma between the entries
+pub data Begins (o : Options) (kind : Kind) (u : List ℕ) : (by_comma : Bool) → (t : List ℕ) → Type 0 where
+  at_bracket : Begins o kind u false u
+  at_comma : {t : List ℕ} → Along o kind u (0x2C ∷ t) → Begins o kind u true t
+
 -- An entry with this text comes between others, those that stand before it and those that follow, before the rest. All around it stays but blanks directly inside of
 -- the brackets; at most a comma comes before it, directly behind an entry, and blanks, and behind it a comma and blanks. A gap leads to it from the first bracket or
--- a comma, which is these blanks alone. Or, where a line ends directly before it, comments on the comma's line are part of that, and with them that line ended. Or it
+-- a comma of the row, which is these blanks alone. Or, where a line ends directly before it, comments on the comma's line are part of that, and with them that line ended. Or it
 -- is the only entry, and the gap is trivia on the bracket's line, or a line ends directly before it. Where no comma comes behind it a gap leads from there to the last
 -- bracket; where one comes, entries follow, or a line ends directly before it. From the only entry blanks alone lead to the last bracket.
-abbrev pub Joins : Kind → (before follow : List (List ℕ)) → (new rest : List ℕ) → Document → Document → Type 0
-Joins kind before follow new rest d e = (spread shorter front led gap comma behind back : List ℕ) × Spreads kind d.text spread × Trims kind spread shorter × Trims kind shorter (front ++ back)
+abbrev pub Joins : Kind → List ℕ → (before follow : List (List ℕ)) → (new rest : List ℕ) → Document → Document → Type 0
+Joins kind path before follow new rest d e = (spread shorter front led gap comma behind back : List ℕ) × Spreads kind path d spread × Trims kind spread shorter × Trims kind shorter (front ++ back)
     × Led d.options kind (gap ++ (new ++ rest)) front led × AreBlanks gap
     × (((comma ≡ 0x2C ∷ []) × ((follow ≢ []) ⊎ StartsLine gap)) ⊎ ((comma ≡ []) × (r : List ℕ) × Gap d.options back (closing kind ∷ r))) × AreBlanks behind
     × NoCommaComes d.options back × (e.text ≡ led ++ (gap ++ (new ++ rest))) × (rest ≡ comma ++ (behind ++ back))
-    × (x t : List ℕ) × (c : ℕ) × (led ≡ x ++ c ∷ t) × IsTrue (c == 0x2C || c == opening kind) × Gap d.options (t ++ (gap ++ (new ++ rest))) (new ++ rest)
-    × ((t ≡ []) ⊎ ((IsTrue (c == 0x2C) × InLine t × StartsLine gap × EndsLine back) ⊎ ((before ++ follow ≡ []) × (InLine t ⊎ StartsLine gap))))
+    × (x t u r : List ℕ) × (by_comma : Bool) × (led ≡ x ++ t) × Value path e.options e.text (opening kind ∷ u) r
+    × Begins e.options kind u by_comma (t ++ (gap ++ (new ++ rest))) × Gap d.options (t ++ (gap ++ (new ++ rest))) (new ++ rest)
+    × ((t ≡ []) ⊎ (((by_comma ≡ true) × InLine t × StartsLine gap × EndsLine back) ⊎ ((before ++ follow ≡ []) × (InLine t ⊎ StartsLine gap))))
     × ((before ++ follow ≡ []) → (z r : List ℕ) × AreBlanks z × (rest ≡ z ++ closing kind ∷ r))
 
 -- Between these and those an entry comes into the container at the path, in one of the layouts, and its marks with its text; each other keeps its text.
 abbrev pub Gains : Kind → List ℕ → (front back : List Named) → Named → Document → Document → Type 0
 Gains kind path front back new d e = Becomes (of kind (front ++ back)) (of kind (front ++ new ∷ back)) path d.value e.value
     × (before behind : List (List ℕ)) × (length before ≡ length front) × (text rest : List ℕ) × Inside path (before ++ behind) (before ++ text ∷ behind) d e
-    × Entry (path ++ length before ∷ []) e.options e.text (text ++ rest) rest × Come (written kind new) (text ++ rest) rest d e × Joins kind before behind text rest d e
+    × Entry (path ++ length before ∷ []) e.options e.text (text ++ rest) rest × Come (written kind new) (text ++ rest) rest d e × Joins kind path before behind text rest d e
     × IsLaidEntry kind new text

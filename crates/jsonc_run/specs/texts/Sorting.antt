@@ -1,5 +1,5 @@
 -- What a sort makes of a document: what goes with an entry, and what stays where it is.
-use Rattle.std.specs.Prelude.{ℕ, ◌≡◌, ◌⊎◌, Bool, true, false, List, [], ◌∷◌, ◌++◌, length, map, get_or, count_by, IsPermutation}
+use Rattle.std.specs.Prelude.{ℕ, ◌≡◌, ◌≢◌, ◌⊎◌, Bool, true, false, List, [], ◌∷◌, ◌++◌, length, map, get_or, count_by, IsPermutation}
 use Rattle.std.specs.List.{range_with_len}
 use Rattle.jsonc_text.specs.Gaps.{IsComment}
 use Rattle.jsonc_text.specs.Plain.{null}
@@ -99,4 +99,4 @@ abbrev pub Sorts : List ℕ → List ℕ → Document → Document → Type 0
 Sorts path order d e = (kind : Kind) × (entries : List Named) × IsPermutation (range_with_len 0 (length entries)) order
     × Becomes (of kind entries) (of kind (map (λ i. get_or entries i (record { name = []; value = null })) order)) path d.value e.value
     × ((test : Mark → Bool) → count_by test e.marks ≡ count_by test d.marks)
-    × (((order ≡ range_with_len 0 (length order)) × (e.text ≡ d.text)) ⊎ Moves kind path order d e)
+    × (((order ≡ range_with_len 0 (length order)) × (e.text ≡ d.text)) ⊎ ((order ≢ range_with_len 0 (length order)) × Moves kind path order d e))

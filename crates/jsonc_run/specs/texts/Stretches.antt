@@ -8,14 +8,15 @@ use Rattle.jsonc_text.specs.Documents.{Document}
 use Rattle.jsonc_run.specs.texts.Paths.{Kind, an_array, an_object, Value, HasEntries}
 use Rattle.jsonc_run.specs.texts.Entries.{Named}
 
-abbrev pub AreLineEnds : List ℕ → Type 0
-AreLineEnds s = Many is_line_end s []
-
 -- the end of one line
 pub data IsLineEnd : List ℕ → Type 0 where
   line_feed : IsLineEnd (0x0A ∷ [])
   carriage_return : IsLineEnd (0x0D ∷ [])
   both : IsLineEnd (0x0D ∷ 0x0A ∷ [])
+
+-- a line ends in the stretch
+abbrev pub HasLine : List ℕ → Type 0
+HasLine s = (x line y : List ℕ) × (s ≡ x ++ (line ++ y)) × IsLineEnd line
 
 -- a comment ends the text
 abbrev pub EndsInComment : List ℕ → Type 0

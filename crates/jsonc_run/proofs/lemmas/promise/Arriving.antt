@@ -1,5 +1,5 @@
 -- What an element that comes into a container of a sound tree adds to the text.
-use Rattle.std.proofs.Common.{◌||◌, ◌==◌, inr, inl, ◌⊎◌, arith, ℕ, ◌+◌, ◌≡◌, ◌≢◌, ◌∙◌, sym, ap, subst, refl, Bool, true, false, not, List, [], ◌∷◌, ◌++◌, length, IsTrue, Option}
+use Rattle.std.proofs.Common.{◌||◌, inr, inl, ◌⊎◌, arith, ℕ, ◌+◌, ◌≡◌, ◌≢◌, ◌∙◌, sym, ap, subst, refl, Bool, true, false, not, List, [], ◌∷◌, ◌++◌, length, IsTrue, Option}
 use Rattle.std.proofs.lemmas.List.{append_assoc, append-nil}
 use Rattle.std.proofs.lemmas.Str.{chars-nil}
 use Rattle.jsonc_text.specs.Options.{Options}
@@ -13,7 +13,7 @@ use Rattle.jsonc_sound.specs.Leaving.{AreInlineTrivia}
 use Rattle.jsonc_edit.specs.multiline.Reflows.{has_newline}
 use Rattle.jsonc_layout.specs.nodes.Kinds.{is_newline}
 use Rattle.jsonc_run.proofs.lemmas.promise.Trivia.{beside_text, line_end_text}
-use Rattle.jsonc_sound.specs.Rows.{RowKind, of_values, of_properties, closing, opening}
+use Rattle.jsonc_sound.specs.Rows.{RowKind, closing, opening}
 use Rattle.jsonc_sound.specs.SoundTrees.{SoundTree}
 use Rattle.jsonc_sound.specs.Marks.{marks, marks_of}
 use Rattle.jsonc_sound.specs.TreeChanges.{IsElement, leaves_of, ElementChanged, this_element, passed, later_element, DocumentChanged}
@@ -27,13 +27,15 @@ use Rattle.jsonc_tree.proofs.OrderedTrees.{leaves-followed_by}
 use Rattle.jsonc_sound.specs.TriviaChanges.{AreTrivia, leaves_then}
 use Rattle.jsonc_insert.specs.elements.Coming as coming
 use Rattle.jsonc_insert.specs.elements.Coming.{BlankLinesLeave, Gap, CommaInserted, GoesOn, ElementInserted}
-use Rattle.jsonc_run.specs.texts.Paths.{Entry}
+use Rattle.jsonc_run.specs.texts.Paths.{Entry, Value}
 use Rattle.jsonc_text.specs.Marks.{Mark}
 use Rattle.jsonc_text.specs.Documents.{Document}
 use Rattle.jsonc_run.specs.texts.Stretches.{Come, Inside}
-use Rattle.jsonc_run.specs.texts.Entering.{Joins, NoCommaComes, Spreads}
+use Rattle.jsonc_run.specs.texts.Entering.{Along, Begins, Joins, NoCommaComes, Spreads}
 use Rattle.jsonc_run.specs.promise.PlaceLaws.{text_of_leaves, node_chars, texts_of}
 use Rattle.jsonc_run.proofs.lemmas.promise.Entries.{element_text}
+use Rattle.jsonc_run.proofs.lemmas.promise.AlongRows.{along_row}
+use Rattle.jsonc_run.proofs.lemmas.promise.LinesInside.{opened}
 use Rattle.jsonc_run.proofs.lemmas.promise.Reversed.{flip, front_same, back_same}
 use Rattle.jsonc_run.proofs.lemmas.promise.Leaves.{row_back, front_of, back_of, document_parts, document_utf8, text_joined, utf8_first, utf8_joined, utf8_second}
 use Rattle.jsonc_run.proofs.lemmas.promise.StretchElements.{Reached, at_first, past_leaves, past_row}
@@ -55,7 +57,7 @@ use Rattle.jsonc_run.proofs.lemmas.promise.Closing.{count_followed}
 use Rattle.jsonc_sound.proofs.LooseLines.{Stops, trivia_gap}
 use Rattle.jsonc_sound.specs.Rows as rows
 use Rattle.jsonc_text.specs.Gaps as text_gaps
-use Rattle.jsonc_sound.proofs.ShapeValues.{comma_mark}
+use Rattle.jsonc_sound.proofs.ShapeValues.{comma_mark, mark_text}
 use Rattle.jsonc_run.specs.texts.Stretches as documents
 use Rattle.jsonc_run.specs.texts.Entering as entering
 use Rattle.jsonc_sound.specs.Lines.{LinesEndLoosely}
@@ -94,12 +96,8 @@ regroup_marks f a b c = simp (append_assoc) refl
 -- what a new element adds to a text, which is such a one, its place there, and its marks
 abbrev pub TextComes : RowKind → List ℕ → ℕ → (List ℕ → Type 0) → List Mark → Document → Document → Type 0
 TextComes kind path n Is come d e = (before behind : List (List ℕ)) × (length before ≡ n) × (text rest : List ℕ) × Inside path (before ++ behind) (before ++ text ∷ behind) d e
-    × Entry (path ++ length before ∷ []) e.options e.text (text ++ rest) rest × Come come (text ++ rest) rest d e × Joins (kind_of_row kind) before behind text rest d e
+    × Entry (path ++ length before ∷ []) e.options e.text (text ++ rest) rest × Come come (text ++ rest) rest d e × Joins (kind_of_row kind) path before behind text rest d e
     × Is text
-
-opening_so : (kind : RowKind) → IsTrue (places.opening (kind_of_row kind) == 0x2C || places.opening (kind_of_row kind) == places.opening (kind_of_row kind))
-opening_so of_values = refl
-opening_so of_properties = refl
 
 no_length : (l : List (List ℕ)) → length l ≡ 0 → l ≡ []
 no_length [] e = refl
@@ -137,6 +135,15 @@ on_one_line o kind z ls are c b r (more (Content.comment k) w s) a h = subst (λ
 on_one_line o kind z ls are c b r (more (Content.newline k) w s) a h = cc
 on_one_line o kind z ls are c b r (more x w s) a h = absurd a.0
 
+-- from the text of the document the second is spread
+abbrev pub SpreadsFrom : places.Kind → List ℕ → Document → List ℕ → List ℕ → Type 0
+SpreadsFrom places.an_array path d x y = y ≡ x
+SpreadsFrom places.an_object path d x y = (y ≡ x) ⊎ ((entering.HasLineEnd path d → ⊥) × entering.Reflows x y)
+
+spreads_so : (kind : places.Kind) (path : List ℕ) (d : Document) (y : List ℕ) → SpreadsFrom kind path d d.text y → Spreads kind path d y
+spreads_so places.an_array path d y h = h
+spreads_so places.an_object path d y h = h
+
 -- all around it stays
 module _ (o : Options) (kind : RowKind) (row middle kept new : OrderedTree) {path : List ℕ} {t u : OrderedTree} (s : SoundTree o t) (r : SoundTree o u) (d : DocumentChanged (bracketed kind row) (bracketed kind new) path t u) (leave : BlankLinesLeave middle kept) where
   abbrev F : List ℕ
@@ -149,7 +156,7 @@ module _ (o : Options) (kind : RowKind) (row middle kept new : OrderedTree) {pat
   k = kind_of_row kind
 
   abbrev pub Spreading : Type 0
-  Spreading = Good o (leaves row) → Good o (leaves middle) × Spreads k (with_row o kind F B (text_of_leaves (leaves row))) (with_row o kind F B (text_of_leaves (leaves middle)))
+  Spreading = (w : Option Plain) → Good o (leaves row) → Good o (leaves middle) × SpreadsFrom k path (document_of o t w) (with_row o kind F B (text_of_leaves (leaves row))) (with_row o kind F B (text_of_leaves (leaves middle)))
 
   abbrev close : List Content
   close = token (closing kind) ∷ []
@@ -338,6 +345,32 @@ module _ (o : Options) (kind : RowKind) (row middle kept new : OrderedTree) {pat
         ∙ ap (λ l. l ++ B) (text_joined own (leaves behind ++ close) g_own.utf8 ∙ ap (λ l. text_of_leaves own ++ l) (text_joined (leaves behind) close g3.utf8 ∙ ap (λ l. text_of_leaves (leaves behind) ++ l) (close_text kind)))
         ∙ first_regroup (text_of_leaves own) (text_of_leaves (leaves behind)) B (places.closing k) ∙ ap (λ l. l ++ (text_of_leaves (leaves behind) ++ (places.closing k ∷ B))) (sym (node_leaves o top)) ∙ ap (λ l. node_chars top ++ l) (sym e)
 
+    -- what stands between the brackets, and behind
+    abbrev inside : List ℕ
+    inside = printed_text (followed_by new bracket) ++ B
+
+    stands_in : Value path o (printed_text u) (places.opening k ∷ inside) B
+    stands_in =
+        let own : List ℕ = text_of_leaves (leaves_of (bracketed kind new)) in
+        let here : Value path o (printed_text u) (own ++ B) B = subst (λ l. Value path o (printed_text u) (own ++ text_of_leaves l) (text_of_leaves l)) (back_same d) (at_the_place o r (flip d)).1 in
+        subst (λ y. Value path o (printed_text u) y B) (ap (λ l. l ++ B) (opened kind (followed_by new bracket))) here
+
+    inside_is : (rest : List ℕ) → rest ≡ text_of_leaves (leaves behind) ++ (places.closing k ∷ B) → inside ≡ text_of_leaves (leaves led) ++ (text_of_leaves gap ++ (node_chars top ++ rest))
+    inside_is rest e = ap (λ y. printed_text y ++ B) whole_row ∙ next_text rest e led g_led
+
+    -- entries and commas lead from the bracket to a comma of the row
+    along_comma : (rest : List ℕ) → rest ≡ text_of_leaves (leaves behind) ++ (places.closing k ∷ B) → (first s2 : OrderedTree) → led ≡ followed_by first (token_then 0x2C s2) → Good o (leaves s2)
+        → Along o k inside (0x2C ∷ (text_of_leaves (leaves s2) ++ (text_of_leaves gap ++ (node_chars top ++ rest))))
+    along_comma rest e first s2 q h =
+        let after : OrderedTree = leaves_then gap next_row in
+        let target : OrderedTree = token_then 0x2C (followed_by s2 after) in
+        let row_is : followed_by new bracket ≡ followed_by first target = whole_row ∙ ap (λ y. followed_by y after) q ∙ followed_by-assoc first (token_then 0x2C s2) after in
+        let all = row_reads o B kind here_new in
+        let along = along_row o k B target tt (λ y. cc) first (subst (Reads o k B) row_is all.0) (subst (LinesEndLoosely true false) row_is all.1) in
+        let to : printed_text target ++ B ≡ 0x2C ∷ (text_of_leaves (leaves s2) ++ (text_of_leaves gap ++ (node_chars top ++ rest))) =
+        ap (λ y. y ++ B) (mark_text comma_mark (followed_by s2 after)) ∙ ap (λ l. 0x2C ∷ l) (next_text rest e s2 h) in
+        subst (λ y. Along o k y (0x2C ∷ (text_of_leaves (leaves s2) ++ (text_of_leaves gap ++ (node_chars top ++ rest))))) (ap (λ y. printed_text y ++ B) (sym row_is)) (subst (Along o k (printed_text (followed_by first target) ++ B)) to along)
+
     abbrev StartsLine : Type 0
     StartsLine = (line q : List ℕ) × (text_of_leaves gap ≡ line ++ q) × documents.IsLineEnd line
 
@@ -352,7 +385,8 @@ module _ (o : Options) (kind : RowKind) (row middle kept new : OrderedTree) {pat
     no_line_led e = led_lacks c (both_lack front back (sym must_is ∙ e)).0
 
     abbrev Reaches : List ℕ → List ℕ → Type 0
-    Reaches lead rest = (y z : List ℕ) × (c : ℕ) × (lead ≡ y ++ c ∷ z) × IsTrue (c == 0x2C || c == places.opening k) × text_gaps.Gap o (z ++ (text_of_leaves gap ++ (node_chars top ++ rest))) (node_chars top ++ rest) × (documents.InLine z ⊎ StartsLine)
+    Reaches lead rest = (y z : List ℕ) × (b : Bool) × (lead ≡ y ++ z) × Begins o k inside b (z ++ (text_of_leaves gap ++ (node_chars top ++ rest)))
+        × text_gaps.Gap o (z ++ (text_of_leaves gap ++ (node_chars top ++ rest))) (node_chars top ++ rest) × (documents.InLine z ⊎ StartsLine)
 
     reaches : (rest : List ℕ) → rest ≡ text_of_leaves (leaves behind) ++ (places.closing k ∷ B) → Reaches (F ++ (places.opening k ∷ text_of_leaves (leaves led))) rest
     reaches rest e =
@@ -363,7 +397,7 @@ module _ (o : Options) (kind : RowKind) (row middle kept new : OrderedTree) {pat
       where
         by : Ended o k B gap (gap_trivia g) top.content top.below (followed_by behind bracket) rows.nothing_yet led → LinesEndLoosely true false (followed_by led (leaves_then gap next_row)) → Reaches (F ++ (places.opening k ∷ text_of_leaves (leaves led))) rest
         by (all_trivia h f a) l0 =
-            (F, text_of_leaves (leaves led), places.opening k, refl, opening_so kind, subst (λ y. text_gaps.Gap o y (node_chars top ++ rest)) (next_text rest e led g_led) (subst (text_gaps.Gap o (printed_text (followed_by led (leaves_then gap next_row)) ++ B)) (first_text rest e) (trivia_gap o B true false (λ w. cc) (element_stops top.content top.below (followed_by behind bracket) element) f l0).0), started g led g_led a no_line_led (good_first o gap (own ++ leaves behind) g1).utf8)
+            (F ++ (places.opening k ∷ []), text_of_leaves (leaves led), false, sym (append_assoc F (places.opening k ∷ []) (text_of_leaves (leaves led))), subst (Begins o k inside false) (inside_is rest e) entering.at_bracket, subst (λ y. text_gaps.Gap o y (node_chars top ++ rest)) (next_text rest e led g_led) (subst (text_gaps.Gap o (printed_text (followed_by led (leaves_then gap next_row)) ++ B)) (first_text rest e) (trivia_gap o B true false (λ w. cc) (element_stops top.content top.below (followed_by behind bracket) element) f l0).0), started g led g_led a no_line_led (good_first o gap (own ++ leaves behind) g1).utf8)
         by (behind_one s1 s2 q f a) l0 =
             let parts2 : leaves led ≡ leaves s1 ++ (token 0x2C ∷ leaves s2) = ap leaves q ∙ leaves-followed_by s1 (token_then 0x2C s2) in
             let h0 = good_as o parts2 g_led in
@@ -374,11 +408,12 @@ module _ (o : Options) (kind : RowKind) (row middle kept new : OrderedTree) {pat
             ∙ ap (λ l. text_of_leaves (leaves s1) ++ l) (text_joined (token 0x2C ∷ []) (leaves s2) (good_first o (token 0x2C ∷ []) (leaves s2) h1).utf8 ∙ ap (λ l. l ++ text_of_leaves (leaves s2)) (one_token comma_mark)) in
             let rows_is : followed_by led (leaves_then gap next_row) ≡ followed_by s1 (token_then 0x2C (followed_by s2 (leaves_then gap next_row))) = ap (λ y. followed_by y (leaves_then gap next_row)) q ∙ followed_by-assoc s1 (token_then 0x2C s2) (leaves_then gap next_row) in
             let l1 = (lines_behind s1 (token_then 0x2C (followed_by s2 (leaves_then gap next_row))) (subst (LinesEndLoosely true false) rows_is l0)).2 in (
-              F ++ (places.opening k ∷ text_of_leaves (leaves s1)),
+              (F ++ (places.opening k ∷ text_of_leaves (leaves s1))) ++ (0x2C ∷ []),
               text_of_leaves (leaves s2),
-              0x2C,
-              ap (λ l. F ++ (places.opening k ∷ l)) text ∙ sym (append_assoc F (places.opening k ∷ text_of_leaves (leaves s1)) (0x2C ∷ text_of_leaves (leaves s2))),
-              refl,
+              true,
+              ap (λ l. F ++ (places.opening k ∷ l)) text ∙ sym (append_assoc F (places.opening k ∷ text_of_leaves (leaves s1)) (0x2C ∷ text_of_leaves (leaves s2)))
+                  ∙ sym (append_assoc (F ++ (places.opening k ∷ text_of_leaves (leaves s1))) (0x2C ∷ []) (text_of_leaves (leaves s2))),
+              entering.at_comma (along_comma rest e s1 s2 q h2),
               subst (λ y. text_gaps.Gap o y (node_chars top ++ rest)) (next_text rest e s2 h2) (subst (text_gaps.Gap o (printed_text (followed_by s2 (leaves_then gap next_row)) ++ B)) (first_text rest e) (trivia_gap o B true false (λ w. cc) (element_stops top.content top.below (followed_by behind bracket) element) f l1).0),
               started g s2 (good_second o (token 0x2C ∷ []) (leaves s2) h1) a (λ e2. (both_lack s1 (token_then 0x2C s2) (ap has_newline (sym q) ∙ no_line_led e2)).1) (good_first o gap (own ++ leaves behind) g1).utf8,
             )
@@ -437,8 +472,9 @@ module _ (o : Options) (kind : RowKind) (row middle kept new : OrderedTree) {pat
     Alone = texts_of front ++ texts_of back ≡ []
 
     abbrev Ready : List ℕ → List ℕ → Type 0
-    Ready lead rest = (y z : List ℕ) × (c : ℕ) × (lead ≡ y ++ c ∷ z) × IsTrue (c == 0x2C || c == places.opening k) × text_gaps.Gap o (z ++ (text_of_leaves gap ++ (node_chars top ++ rest))) (node_chars top ++ rest)
-        × ((z ≡ []) ⊎ ((IsTrue (c == 0x2C) × documents.InLine z × entering.StartsLine (text_of_leaves gap) × entering.EndsLine back_text) ⊎ (Alone × (documents.InLine z ⊎ StartsLine))))
+    Ready lead rest = (y z : List ℕ) × (b : Bool) × (lead ≡ y ++ z) × Begins o k inside b (z ++ (text_of_leaves gap ++ (node_chars top ++ rest)))
+        × text_gaps.Gap o (z ++ (text_of_leaves gap ++ (node_chars top ++ rest))) (node_chars top ++ rest)
+        × ((z ≡ []) ⊎ (((b ≡ true) × documents.InLine z × entering.StartsLine (text_of_leaves gap) × entering.EndsLine back_text) ⊎ (Alone × (documents.InLine z ⊎ StartsLine))))
 
     -- the text through a comma, and beside it
     comma_text : (first : OrderedTree) (beside : List Content) → AreTrivia beside → led ≡ followed_by first (token_then 0x2C (leaves_then beside none))
@@ -456,20 +492,37 @@ module _ (o : Options) (kind : RowKind) (row middle kept new : OrderedTree) {pat
     ready rest e = by stands
       where
         by : coming.Follows gap led back (element_count (followed_by front back)) → Ready (F ++ (places.opening k ∷ text_of_leaves (leaves led))) rest
-        by (coming.behind_bracket q) = (F, [], places.opening k, ap (λ z. F ++ (places.opening k ∷ text_of_leaves (leaves z))) q ∙ ap (λ l. F ++ (places.opening k ∷ l)) chars-nil, opening_so kind, gap_here rest e, inl refl)
+        by (coming.behind_bracket q) =
+            let empty : text_of_leaves (leaves led) ≡ [] = ap (λ z. text_of_leaves (leaves z)) q ∙ chars-nil in (
+              F ++ (places.opening k ∷ []),
+              [],
+              false,
+              ap (λ l. F ++ (places.opening k ∷ l)) empty ∙ sym (append-nil (F ++ (places.opening k ∷ []))),
+              subst (Begins o k inside false) (inside_is rest e ∙ ap (λ l. l ++ (text_of_leaves gap ++ (node_chars top ++ rest))) empty) entering.at_bracket,
+              gap_here rest e,
+              inl refl,
+            )
         by (coming.behind_comma first q) =
             let t = comma_text first [] tt q in
-            (F ++ (places.opening k ∷ text_of_leaves (leaves first)), [], 0x2C, t.1 ∙ ap (λ l. (F ++ (places.opening k ∷ text_of_leaves (leaves first))) ++ 0x2C ∷ l) chars-nil, refl, gap_here rest e, inl refl)
+            let through : List ℕ = (F ++ (places.opening k ∷ text_of_leaves (leaves first))) ++ (0x2C ∷ []) in (
+              through,
+              [],
+              true,
+              t.1 ∙ ap (λ l. (F ++ (places.opening k ∷ text_of_leaves (leaves first))) ++ 0x2C ∷ l) chars-nil ∙ sym (append-nil through),
+              entering.at_comma (subst (λ l. Along o k inside (0x2C ∷ (l ++ (text_of_leaves gap ++ (node_chars top ++ rest))))) chars-nil (along_comma rest e first none q (good_first o [] (leaves led) g_led))),
+              gap_here rest e,
+              inl refl,
+            )
         by (coming.behind_comments b first after beside spaces n inline in_spaces blank q is) =
             let are = beside_trivia beside inline in
             let t = comma_text first beside are q in
             let through : OrderedTree = followed_by first (token_then 0x2C none) in
             let led_is : led ≡ followed_by through (leaves_then beside none) = q ∙ sym (followed_by-assoc first (token_then 0x2C none) (leaves_then beside none)) in (
-              F ++ (places.opening k ∷ text_of_leaves (leaves first)),
+              (F ++ (places.opening k ∷ text_of_leaves (leaves first))) ++ (0x2C ∷ []),
               text_of_leaves beside,
-              0x2C,
-              t.1,
-              refl,
+              true,
+              t.1 ∙ sym (append_assoc (F ++ (places.opening k ∷ text_of_leaves (leaves first))) (0x2C ∷ []) (text_of_leaves beside)),
+              entering.at_comma (subst (λ l. Along o k inside (0x2C ∷ (text_of_leaves l ++ (text_of_leaves gap ++ (node_chars top ++ rest))))) (none_behind beside are) (along_comma rest e first (leaves_then beside none) q (good_as o (sym (none_behind beside are)) t.0))),
               gap_from through beside are led_is t.0 rest e,
               inr (inl (refl, beside_text o beside inline t.0.pieces, starts_line b refl (good_first o gap (own ++ leaves behind) g1).utf8, line_ends after spaces n in_spaces blank is)),
             )
@@ -520,9 +573,9 @@ module _ (o : Options) (kind : RowKind) (row middle kept new : OrderedTree) {pat
         let u = (good_first o (leaves front) (leaves back) (good_as o split h)).utf8 in
         ap (with_row o kind F B) (ap text_of_leaves split ∙ text_joined (leaves front) (leaves back) u) ∙ kept_regroup (places.opening k) (places.closing k) F (text_of_leaves (leaves front)) (text_of_leaves (leaves back)) B
 
-    pub joins_so : (rest : List ℕ) → rest ≡ text_of_leaves (leaves behind) ++ (places.closing k ∷ B) → Joins k (texts_of front) (texts_of back) (node_chars top) rest (document_of o t w) (document_of o u x)
+    pub joins_so : (rest : List ℕ) → rest ≡ text_of_leaves (leaves behind) ++ (places.closing k ∷ B) → Joins k path (texts_of front) (texts_of back) (node_chars top) rest (document_of o t w) (document_of o u x)
     joins_so rest e =
-        let m = spreads (row_good row old_good) in
+        let m = spreads w (row_good row old_good) in
         let l = lines_trimmed o kind F B leave m.0 in
         let y = ready rest e in
         let n = onward o comma_mark on in (
@@ -534,7 +587,7 @@ module _ (o : Options) (kind : RowKind) (row middle kept new : OrderedTree) {pat
           n.comma,
           text_of_leaves n.gap,
           back_text,
-          subst (λ y. Spreads k y (with_row o kind F B (text_of_leaves (leaves middle)))) (sym old_text) m.1,
+          spreads_so k path (document_of o t w) (with_row o kind F B (text_of_leaves (leaves middle))) (subst (λ y. SpreadsFrom k path (document_of o t w) y (with_row o kind F B (text_of_leaves (leaves middle)))) (sym old_text) m.1),
           l.last,
           subst (entering.Trims k l.shorter) (kept_text l.good) l.first,
           led_so o kind F B comma_mark (text_of_leaves gap ++ (node_chars top ++ rest)) (comma_entry rest e) c g_led,
@@ -547,8 +600,11 @@ module _ (o : Options) (kind : RowKind) (row middle kept new : OrderedTree) {pat
           e ∙ ap (λ y. y ++ (places.closing k ∷ B)) on_text ∙ behind_regroup n.comma (text_of_leaves n.gap) (text_of_leaves (leaves back)) B (places.closing k),
           y.0,
           y.1,
+          inside,
+          B,
           y.2,
           y.3,
+          stands_in,
           y.4,
           y.5,
           y.6,

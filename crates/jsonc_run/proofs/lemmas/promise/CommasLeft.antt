@@ -3,7 +3,9 @@ use Rattle.std.proofs.Common.{ℕ, ◌≡◌, ◌∙◌, sym, ap, subst, refl, B
 use Rattle.std.proofs.lemmas.List.{append_assoc}
 use Rattle.std.proofs.lemmas.Str.{chars-nil}
 use Rattle.jsonc_text.specs.Options.{Options}
+use Rattle.jsonc_text.specs.Gaps.{Gap}
 use Rattle.jsonc_run.specs.texts.Paths as places
+use Rattle.jsonc_run.specs.texts.Paths.{Value}
 use Rattle.jsonc_tree.specs.Content.{Content, token}
 use Rattle.jsonc_tree.specs.OrderedTree.{OrderedTree, none, more, leaves, followed_by, Top}
 use Rattle.jsonc_tree.proofs.OrderedTrees.{leaves-followed_by}
@@ -20,25 +22,31 @@ use Rattle.jsonc_run.specs.promise.PlaceLaws.{text_of_leaves}
 use Rattle.jsonc_run.specs.texts.Entering.{NoCommaComes}
 use Rattle.jsonc_run.specs.texts.Edits.{Comma, Loose, Opens}
 use Rattle.jsonc_run.specs.texts.Edits as texts
-use Rattle.jsonc_run.proofs.lemmas.promise.Leaves.{back_of, document_parts, document_utf8, front_of, text_joined, utf8_first, utf8_second}
-use Rattle.jsonc_run.proofs.lemmas.promise.LooseRows.{Reads, kind_of_row, behind_comma, behind_entry, loose_text, loose_to, none_comes, reads_on, reads_past, row_reads}
+use Rattle.jsonc_run.proofs.lemmas.promise.Leaves.{back_of, document_parts, document_utf8, text_joined, utf8_first, utf8_second}
+use Rattle.jsonc_run.proofs.lemmas.promise.LooseRows.{Reads, kind_of_row, behind_comma, behind_entry, loose_text, loose_to, none_comes, reads_on, reads_past, row_reads, trivia_leaves}
 use Rattle.jsonc_run.proofs.lemmas.promise.Places.{DocumentItself}
-use Rattle.jsonc_sound.proofs.ShapeValues.{bracket_mark, brace_mark, mark_text}
+use Rattle.jsonc_sound.proofs.LooseLines.{trivia_gap}
+use Rattle.jsonc_sound.proofs.ShapeValues.{bracket_mark, brace_mark, comma_mark, mark_text}
 use Rattle.jsonc_sound.proofs.WithoutValue.{among_leaves}
 use Rattle.jsonc_sound.proofs.SeamRows.{container_leaves}
 use Rattle.jsonc_insert.proofs.lemmas.elements.Stretches.{comma_past}
 use Rattle.jsonc_run.proofs.lemmas.promise.RemovedTexts.{comma_text, text_cons}
 use Rattle.jsonc_run.proofs.lemmas.promise.Values.{ValueHere, at_the_place}
-use Rattle.jsonc_run.proofs.lemmas.promise.Joined.{lines_past, lines_behind}
+use Rattle.jsonc_run.proofs.lemmas.promise.Joined.{lines_past, lines_behind, past_some, past_stretch}
 use Rattle.jsonc_run.proofs.lemmas.promise.Arriving.{element_stops}
 
 -- which comma leaves a row with its element, by what stands in it
 pub data Which (top : Top) (row : OrderedTree) : (comma mid lead trail rest : List Content) → Bool → Type 0 where
-  the_one_behind : {lead trail rest : List Content} → Which top row [] [] lead trail rest true
+  the_one_behind : (front after : OrderedTree) (before between : List Content) {trail rest : List Content} → row ≡ followed_by front (among before top between (token_then 0x2C after))
+      → IsElement top.content → AreTrivia before → AreTrivia between → leaves (leaves_then between (token_then 0x2C after)) ≡ trail ++ rest → Which top row [] [] before trail rest true
   one_before : (front mid back : OrderedTree) (before line : List Content) → row ≡ followed_by front (token_then 0x2C (followed_by mid (among before top line back)))
       → IsElement top.content → AreTrivia before → AreTrivia line → IsTrue (has_no_comma mid) → IsTrue (not (comma_comes back)) → Which top row (token 0x2C ∷ []) (leaves mid) before line (leaves back) false
   none_there : (front back : OrderedTree) (before line : List Content) → row ≡ followed_by front (among before top line back)
       → IsElement top.content → AreTrivia before → AreTrivia line → IsTrue (has_no_comma front) → IsTrue (not (comma_comes back)) → Which top row [] [] before line (leaves back) false
+
+some_next : (ls : List Content) (c : Content) (w r : OrderedTree) → leaves_then ls (more c w r) ≡ none → ⊥
+some_next [] c w r e = cc
+some_next (l ∷ ls) c w r e = cc
 
 comes_behind : (ls : List Content) (row : OrderedTree) → AreTrivia ls → comma_comes (leaves_then ls row) ≡ comma_comes row
 comes_behind [] row h = refl
@@ -65,13 +73,41 @@ module _ (o : Options) {t : OrderedTree} (s : SoundTree o t) (kind : RowKind) {p
   bracket_text of_values r = mark_text bracket_mark r
   bracket_text of_properties r = mark_text brace_mark r
 
-  opened : Opens (printed_text t) (printed_text row ++ z)
-  opened =
-      let m = at_the_place o s d.changed in
-      let text : printed_text t ≡ text_of_leaves (front_of d.changed) ++ (places.opening (kind_of_row kind) ∷ (printed_text row ++ z)) =
-      m.0 ∙ ap (λ l. text_of_leaves (front_of d.changed) ++ (text_of_leaves (leaves_of (container_of kind row)) ++ text_of_leaves l)) d.last
-      ∙ ap (λ l. text_of_leaves (front_of d.changed) ++ (l ++ z)) (ap text_of_leaves (container_leaves kind row) ∙ bracket_text kind row) in
-      subst (λ x. Opens x (printed_text row ++ z)) (sym text) (texts.a_bracket (kind_of_row kind) (text_of_leaves (front_of d.changed)))
+  opened : (i : ℕ) → Opens o (printed_text t) (path ++ i ∷ []) (printed_text row ++ z)
+  opened i =
+      let own : List ℕ = text_of_leaves (leaves_of (container_of kind row)) in
+      let here : Value path o (printed_text t) (own ++ z) z = subst (λ l. Value path o (printed_text t) (own ++ text_of_leaves l) (text_of_leaves l)) d.last (at_the_place o s d.changed).1 in
+      let text : own ++ z ≡ places.opening (kind_of_row kind) ∷ (printed_text row ++ z) = ap (λ l. l ++ z) (ap text_of_leaves (container_leaves kind row) ∙ bracket_text kind row) in
+      texts.a_bracket (kind_of_row kind) path i (subst (λ x. Value path o (printed_text t) x z) text here)
+
+  regrouped : (a c e g i : List Content) → (a ++ (c ++ (e ++ g))) ++ i ≡ a ++ (c ++ (e ++ (g ++ i)))
+  regrouped a c e g i = simp (append_assoc) refl
+
+  -- a gap leads to the comma behind it
+  comma_next : (top : Top) (front after : OrderedTree) (before between : List Content) (trail rest : List Content) → row ≡ followed_by front (among before top between (token_then 0x2C after)) → IsElement top.content → AreTrivia before
+      → AreTrivia between → leaves (leaves_then between (token_then 0x2C after)) ≡ trail ++ rest → Gap o (text_of_leaves trail ++ text_of_leaves (rest ++ b)) (0x2C ∷ (printed_text after ++ z))
+  comma_next top front after before between trail rest e el bt wt is =
+      let all = row_reads o z kind here in
+      let tail : OrderedTree = token_then 0x2C after in
+      let inner : OrderedTree = leaves_then between tail in
+      let next : OrderedTree = more top.content top.below inner in
+      let r0 = subst (Reads o (kind_of_row kind) z) e all.0 in
+      let l0 = subst (LinesEndLoosely true false) e all.1 in
+      let r1 = past_stretch o (kind_of_row kind) z front (leaves_then before next) (some_next before top.content top.below inner) r0 in
+      let r2 = past_some o (kind_of_row kind) z before next (λ w. cc) r1 in
+      let r3 = behind_entry o (kind_of_row kind) z top.content top.below inner el r2 in
+      let l3 = (lines_past before next (lines_behind front (leaves_then before next) l0)).2 in
+      let f = trivia_leaves o (kind_of_row kind) z [] tt (token 0x2C) none after between wt r3 in
+      let gap = (trivia_gap o z true false (λ w. cc) tt f l3).0 in
+      let row_leaves : leaves row ≡ leaves front ++ (before ++ (leaves_of top ++ (trail ++ rest))) =
+      ap leaves e ∙ leaves-followed_by front (among before top between tail) ∙ ap (λ l. leaves front ++ l) (among_leaves before top between tail bt wt ∙ ap (λ l. before ++ (leaves_of top ++ l)) (sym (front_leaves between tail wt) ∙ is)) in
+      let u0 : AllUtf8 (leaves front ++ (before ++ (leaves_of top ++ ((trail ++ rest) ++ b)))) = subst AllUtf8 (ap (λ l. l ++ b) row_leaves ∙ regrouped (leaves front) before (leaves_of top) (trail ++ rest) b) row_utf8 in
+      let u1 = utf8_second before (leaves_of top ++ ((trail ++ rest) ++ b)) (utf8_second (leaves front) (before ++ (leaves_of top ++ ((trail ++ rest) ++ b))) u0) in
+      let u2 : AllUtf8 ((trail ++ rest) ++ b) = utf8_second (leaves_of top) ((trail ++ rest) ++ b) u1 in
+      let u3 : AllUtf8 (trail ++ (rest ++ b)) = subst AllUtf8 (append_assoc trail rest b) u2 in
+      let from : printed_text inner ++ z ≡ text_of_leaves trail ++ text_of_leaves (rest ++ b) = ends_so inner (trail ++ rest) is u2 ∙ ap text_of_leaves (append_assoc trail rest b) ∙ text_joined trail (rest ++ b) (utf8_first trail (rest ++ b) u3) in
+      let to : printed_text tail ++ z ≡ 0x2C ∷ (printed_text after ++ z) = ap (λ y. y ++ z) (mark_text comma_mark after) in
+      subst (λ x. Gap o x (0x2C ∷ (printed_text after ++ z))) from (subst (Gap o (printed_text inner ++ z)) to gap)
 
   -- what stands behind a place of the row
   module _ (top : Top) (back : OrderedTree) (before line : List Content) (element : IsElement top.content) (bt : AreTrivia before) (lt : AreTrivia line) (none_come : IsTrue (not (comma_comes back))) (mid : OrderedTree) (free : IsTrue (has_no_comma mid))
@@ -150,12 +186,13 @@ module _ (o : Options) {t : OrderedTree} (s : SoundTree o t) (kind : RowKind) {p
         subst (NoCommaComes o) at_line
         (none_comes o (kind_of_row kind) z (leaves_then line back) later (lines_past before first (lines_behind mid second lines)).2 (subst (λ (x : Bool). IsTrue (not x)) (sym (comes_behind line back lt)) none_come))
 
-  whose : {top : Top} {comma mid lead trail rest : List Content} {c : Bool} → Which top row comma mid lead trail rest c
-      → Comma o (printed_text t) (text_of_leaves lead) (text_of_leaves (leaves_of top) ++ (text_of_leaves trail ++ text_of_leaves (rest ++ b))) (text_of_leaves trail ++ text_of_leaves (rest ++ b)) c (text_of_leaves comma) (text_of_leaves mid)
-  whose {top} (the_one_behind {lead = lead} {trail = trail} {rest = rest}) =
+  whose : (i : ℕ) {top : Top} {comma mid lead trail rest : List Content} {c : Bool} → Which top row comma mid lead trail rest c
+      → Comma (path ++ i ∷ []) o (printed_text t) (text_of_leaves lead) (text_of_leaves (leaves_of top) ++ (text_of_leaves trail ++ text_of_leaves (rest ++ b))) (text_of_leaves trail ++ text_of_leaves (rest ++ b)) c (text_of_leaves comma) (text_of_leaves mid)
+  whose i {top} (the_one_behind front after before between {trail = trail} {rest = rest} e el bt wt is) =
       let behind : List ℕ = text_of_leaves trail ++ text_of_leaves (rest ++ b) in
-      subst (λ x. Comma o (printed_text t) (text_of_leaves lead) (text_of_leaves (leaves_of top) ++ behind) behind true x x) (sym chars-nil) texts.behind
-  whose {top} (one_before front mid back before line e el bt lt free come) =
+      subst (λ x. Comma (path ++ i ∷ []) o (printed_text t) (text_of_leaves before) (text_of_leaves (leaves_of top) ++ behind) behind true x x) (sym chars-nil)
+      (texts.behind (comma_next top front after before between trail rest e el bt wt is))
+  whose i {top} (one_before front mid back before line e el bt lt free come) =
       let all = row_reads o z kind here in
       let inner : OrderedTree = followed_by mid (among before top line back) in
       let r0 = subst (Reads o (kind_of_row kind) z) e all.0 in
@@ -168,8 +205,8 @@ module _ (o : Options) {t : OrderedTree} (s : SoundTree o t) (kind : RowKind) {p
       let n = not_behind top back before line el bt lt come mid free u2 r2 l2 in
       let m = at_mid top back before line el bt lt come mid free u2 r2 l2 in
       let entry : List ℕ = text_of_leaves (leaves_of top) ++ (text_of_leaves line ++ text_of_leaves (leaves back ++ b)) in
-      subst (λ x. Comma o (printed_text t) (text_of_leaves before) entry (text_of_leaves line ++ text_of_leaves (leaves back ++ b)) false x (text_of_leaves (leaves mid))) (sym comma_text) (texts.before_it n (subst (λ x. Loose o x entry) m l))
-  whose {top} (none_there front back before line e el bt lt free come) =
+      subst (λ x. Comma (path ++ i ∷ []) o (printed_text t) (text_of_leaves before) entry (text_of_leaves line ++ text_of_leaves (leaves back ++ b)) false x (text_of_leaves (leaves mid))) (sym comma_text) (texts.before_it n (subst (λ x. Loose o x entry) m l))
+  whose i {top} (none_there front back before line e el bt lt free come) =
       let all = row_reads o z kind here in
       let r2 = subst (Reads o (kind_of_row kind) z) e all.0 in
       let l2 = subst (LinesEndLoosely true false) e all.1 in
@@ -177,10 +214,10 @@ module _ (o : Options) {t : OrderedTree} (s : SoundTree o t) (kind : RowKind) {p
       let l = loose top back before line el bt lt come front free u2 r2 l2 in
       let n = not_behind top back before line el bt lt come front free u2 r2 l2 in
       let entry : List ℕ = text_of_leaves (leaves_of top) ++ (text_of_leaves line ++ text_of_leaves (leaves back ++ b)) in
-      subst (λ x. Comma o (printed_text t) (text_of_leaves before) entry (text_of_leaves line ++ text_of_leaves (leaves back ++ b)) false x x) (sym chars-nil)
-      (texts.none n opened (subst (λ r. Loose o (printed_text r ++ z) entry) (sym e) l))
+      subst (λ x. Comma (path ++ i ∷ []) o (printed_text t) (text_of_leaves before) entry (text_of_leaves line ++ text_of_leaves (leaves back ++ b)) false x x) (sym chars-nil)
+      (texts.none n (opened i) (subst (λ r. Loose o (printed_text r ++ z) entry) (sym e) l))
 
-  pub comma_so : {top : Top} {comma mid lead trail rest : List Content} {c : Bool} → Which top row comma mid lead trail rest c → (back : List Content) → rest ++ b ≡ back
-      → Comma o (printed_text t) (text_of_leaves lead) (text_of_leaves (leaves_of top) ++ (text_of_leaves trail ++ text_of_leaves back)) (text_of_leaves trail ++ text_of_leaves back) c (text_of_leaves comma) (text_of_leaves mid)
-  comma_so {top} {comma} {mid} {lead} {trail} {rest} {c} w back e =
-      subst (λ l. Comma o (printed_text t) (text_of_leaves lead) (text_of_leaves (leaves_of top) ++ (text_of_leaves trail ++ text_of_leaves l)) (text_of_leaves trail ++ text_of_leaves l) c (text_of_leaves comma) (text_of_leaves mid)) e (whose w)
+  pub comma_so : (i : ℕ) {top : Top} {comma mid lead trail rest : List Content} {c : Bool} → Which top row comma mid lead trail rest c → (back : List Content) → rest ++ b ≡ back
+      → Comma (path ++ i ∷ []) o (printed_text t) (text_of_leaves lead) (text_of_leaves (leaves_of top) ++ (text_of_leaves trail ++ text_of_leaves back)) (text_of_leaves trail ++ text_of_leaves back) c (text_of_leaves comma) (text_of_leaves mid)
+  comma_so i {top} {comma} {mid} {lead} {trail} {rest} {c} w back e =
+      subst (λ l. Comma (path ++ i ∷ []) o (printed_text t) (text_of_leaves lead) (text_of_leaves (leaves_of top) ++ (text_of_leaves trail ++ text_of_leaves l)) (text_of_leaves trail ++ text_of_leaves l) c (text_of_leaves comma) (text_of_leaves mid)) e (whose i w)

@@ -20,7 +20,8 @@ use Rattle.jsonc_sound.proofs.ReplacedStretches.{blanks_unmarked}
 use Rattle.jsonc_sound.proofs.ShapeValues.{comma_mark}
 use Rattle.jsonc_run.specs.texts.Paths.{Entry}
 use Rattle.jsonc_run.specs.texts.Commenting as texts
-use Rattle.jsonc_run.specs.texts.Commenting.{ComesBetween, ComesAbove, ComesBehind, InsertsComment, EndsLine, CommentTrail}
+use Rattle.jsonc_run.specs.texts.Commenting.{ComesBetween, ComesAbove, ComesBehind, InsertsComment, CommentTrail}
+use Rattle.jsonc_run.specs.texts.Stretches.{HasLine}
 use Rattle.jsonc_run.specs.texts.Edits as edits
 use Rattle.jsonc_run.specs.Written.{CommentInserted, IsChanged, by_inserting_comment}
 use Rattle.jsonc_text.specs.declared.edit.Place.{Place}
@@ -38,7 +39,7 @@ use Rattle.jsonc_run.proofs.lemmas.promise.Trivia.{beside_text, first_text, line
 
 module _ (o : Options) where
   -- among blanks a line ends
-  line_ends : (ls : List Content) → AreBlanks ls → Good o ls → IsTrue (list_any is_newline ls) → EndsLine (text_of_leaves ls)
+  line_ends : (ls : List Content) → AreBlanks ls → Good o ls → IsTrue (list_any is_newline ls) → HasLine (text_of_leaves ls)
   line_ends [] h g e = cc
   line_ends (whitespace s ∷ ls) h g e =
       let t = piece_trivia o (whitespace s) refl g.pieces.0 in

@@ -55,7 +55,7 @@ module _ (o : Options) {t u : OrderedTree} (s : SoundTree o t) (r : SoundTree o 
 
   pub gains_so : (k : ItemGained v (min i (item_count g.old)) g.old g.new) → min j (item_count g.old) ≡ length k.front → Gains an_array path k.front k.back (entry_of [] v) (document_of o t (Some x)) (document_of o u (Some y))
   gains_so k number =
-      let comes = text_comes o of_values c.row c.kept c.new s r c.changed (Some x) (Some y) (kept_texts c.leave) (kept_marks c.leave) (value_of_element (laid_value o c.layout v texts)) (literals_of v) (laid_literals c.layout v texts) (IsLaidEntry an_array (entry_of [] v)) (is_laid o c.layout v texts) c.row c.leave (λ g. (g, refl)) c.comes in (
+      let comes = text_comes o of_values c.row c.kept c.new s r c.changed (Some x) (Some y) (kept_texts c.leave) (kept_marks c.leave) (value_of_element (laid_value o c.layout v texts)) (literals_of v) (laid_literals c.layout v texts) (IsLaidEntry an_array (entry_of [] v)) (is_laid o c.layout v texts) c.row c.leave (λ w g. (g, refl)) c.comes in (
         subst (λ (p : Items). Changed (of an_array (k.front ++ k.back)) (plain.array p) path x y) k.after (subst (λ (p : Items). Changed (plain.array p) (plain.array g.new) path x y) k.before (changed g.changed)),
         comes.0,
         comes.1,

@@ -42,7 +42,7 @@ use Rattle.jsonc_run.proofs.lemmas.promise.LooseRows.{Reads, kind_of_row}
 use Rattle.jsonc_sound.proofs.ShapeValues.{Mark, bracket_mark, brace_mark, close_bracket_mark, close_brace_mark}
 use Rattle.jsonc_sound.proofs.Entries.{blanks_trivia}
 use Rattle.jsonc_run.proofs.lemmas.promise.Stretches.{pieces_first, pieces_second}
-use Rattle.jsonc_run.proofs.lemmas.promise.Trivia.{beside_text}
+use Rattle.jsonc_run.proofs.lemmas.promise.Trivia.{beside_text, line_end_text}
 
 -- leaves that are pieces of a document, and characters
 pub record Good (o : Options) (ls : List Content) : Type 0 where
@@ -104,7 +104,7 @@ module _ (o : Options) (kind : RowKind) (F B : List ℕ) where
   not_trimmed : (s : List ℕ) → Trims k (with_row s) (with_row s)
   not_trimmed s =
       subst (λ x. Trims k x x) (append_assoc F (places.opening k ∷ s) (places.closing k ∷ B))
-      (entering.before_last (F ++ (places.opening k ∷ s)) [] [] B many.Many.stop many.Many.stop)
+      (entering.before_last (F ++ (places.opening k ∷ s)) [] [] B many.Many.stop many.Many.stop (inl many.Many.stop))
 
   back_regroup : (a b c : ℕ) (f r g s z : List ℕ) → f ++ (a ∷ ((r ++ (g ++ s)) ++ (b ∷ z))) ≡ (f ++ (a ∷ r)) ++ (g ++ (s ++ (b ∷ z)))
   back_regroup a b c f r g s z = simp (append_assoc) refl
@@ -147,7 +147,8 @@ module _ (o : Options) (kind : RowKind) (F B : List ℕ) where
         trims =
             subst (λ x. Trims k x (with_row (text_of_leaves (leaves (followed_by front tail))))) (sym all)
             (subst (Trims k ((F ++ (places.opening k ∷ text_of_leaves (leaves front))) ++ (text_of_leaves gone ++ (text_of_leaves line ++ (places.closing k ∷ B))))) (sym now)
-            (entering.before_last (F ++ (places.opening k ∷ text_of_leaves (leaves front))) (text_of_leaves gone) (text_of_leaves line) B (blanks_text o gone a (good_first o gone line g1).pieces) (blanks_text o line (refl, b) g2.pieces)));
+            (entering.before_last (F ++ (places.opening k ∷ text_of_leaves (leaves front))) (text_of_leaves gone) (text_of_leaves line) B (blanks_text o gone a (good_first o gone line g1).pieces) (blanks_text o line (refl, b) g2.pieces)
+            (inr ([], text_of_leaves (newline n ∷ []), text_of_leaves spaces, text_joined (newline n ∷ []) spaces (g2.utf8.0, tt), line_end_text n))));
       }
 
   first_trimmed : {row kept : OrderedTree} → FirstLinesLeave row kept → Good o (leaves row) → Trimmed row kept
@@ -174,7 +175,8 @@ module _ (o : Options) (kind : RowKind) (F B : List ℕ) where
         trims =
             subst (λ x. Trims k x (with_row (text_of_leaves (leaves (leaves_then spaces (more (newline n) none row)))))) (sym all)
             (subst (Trims k (F ++ (places.opening k ∷ (text_of_leaves line ++ (text_of_leaves gone ++ (text_of_leaves rest ++ (places.closing k ∷ B))))))) (sym now)
-            (entering.behind_first F (text_of_leaves line) (text_of_leaves gone) (text_of_leaves rest ++ (places.closing k ∷ B)) (blanks_text o line (blanks_with_line spaces n a) f0.pieces) (blanks_text o gone b (good_first o gone rest g1).pieces)));
+            (entering.behind_first F (text_of_leaves line) (text_of_leaves gone) (text_of_leaves rest ++ (places.closing k ∷ B)) (blanks_text o line (blanks_with_line spaces n a) f0.pieces) (blanks_text o gone b (good_first o gone rest g1).pieces)
+            (inr (text_of_leaves spaces, text_of_leaves (newline n ∷ []), [], text_joined spaces (newline n ∷ []) (good_first o spaces (newline n ∷ []) f0).utf8 ∙ ap (λ l. text_of_leaves spaces ++ l) (sym (append-nil (text_of_leaves (newline n ∷ [])))), line_end_text n))));
       }
 
   -- a row that is put on several lines

@@ -27,6 +27,7 @@ use Rattle.jsonc_run.specs.Written.{IsChanged, by_lines, by_commas, IsChangedAt}
 use Rattle.jsonc_run.specs.texts.Stretches as documents
 use Rattle.jsonc_run.specs.texts.Edits as texts
 use Rattle.jsonc_run.specs.texts.Stretches.{Inside, Without, is_space}
+use Rattle.jsonc_run.specs.texts.Entering.{HasLineEnd}
 use Rattle.jsonc_run.specs.texts.Edits.{Commas, IsOnLines, Makes, SetsCommas, sets_some}
 use Rattle.jsonc_sound.specs.Leaves.{is_inner_blank}
 use Rattle.std.proofs.lemmas.Str.{chars-nil}
@@ -40,6 +41,7 @@ use Rattle.jsonc_run.proofs.lemmas.promise.NoneLeft as gone
 use Rattle.jsonc_run.proofs.lemmas.promise.NoneLeft.{none_left, NoneLeft}
 use Rattle.jsonc_run.proofs.lemmas.promise.NoneMissing as missing
 use Rattle.jsonc_run.proofs.lemmas.promise.NoneMissing.{all_trailing, NoneMissing}
+use Rattle.jsonc_run.proofs.lemmas.promise.LacksLines.{lacks_line}
 use Rattle.jsonc_run.proofs.lemmas.promise.LinesInside.{line_inside}
 use Rattle.jsonc_run.proofs.lemmas.promise.PartLines.{parts_on_lines}
 use Rattle.jsonc_sort.proofs.Same.{document_same}
@@ -139,10 +141,10 @@ spaces_leave o (space_leaves {c = c} {x = x} {y = y} q h) p u =
     subst (λ a. Without is_space a (text_of_leaves y)) (sym (text_joined (c ∷ []) x (u.0, tt))) (whitespace_leaves o c q (p.0, tt) (spaces_leave o h p.1 u.1))
 
 -- where a line ended already nothing has changed, and else each part is on a line of its own
-lines_so : (o : Options) {t u : OrderedTree} {path : List ℕ} → SoundTree o u → (kind : RowKind) {row new : OrderedTree} → SpreadsOut row new → (has_newline row ≡ false → IsTrue (is_on_lines new)) → DocumentChanged (bracketed kind row) (bracketed kind new) path t u
-    → (w : Option Plain) → (printed_text u ≡ printed_text t) ⊎ IsOnLines path (document_of o u w)
-lines_so o r kind (reflows.stays h) f d w = inl (ap printed_text (sym (document_same refl d)))
-lines_so o r kind {row} {new} (reflows.reflows e h k) f d w = inr (parts_on_lines o kind row new r d (f e) w)
+lines_so : (o : Options) {t u : OrderedTree} {path : List ℕ} → SoundTree o t → SoundTree o u → (kind : RowKind) {row new : OrderedTree} → SpreadsOut row new → (has_newline row ≡ false → IsTrue (is_on_lines new)) → DocumentChanged (bracketed kind row) (bracketed kind new) path t u
+    → (w : Option Plain) → ((printed_text u ≡ printed_text t) × HasLineEnd path (document_of o t w)) ⊎ ((HasLineEnd path (document_of o t w) → ⊥) × IsOnLines path (document_of o u w))
+lines_so o s r kind {row} (reflows.stays h) f d w = inl (ap printed_text (sym (document_same refl d)), line_inside o kind row s d h w)
+lines_so o s r kind {row} {new} (reflows.reflows e h k) f d w = inr (lacks_line o kind row s d e w, parts_on_lines o kind row new r d (f e) w)
 
 pub multiline_made : (o : Options) (t u : OrderedTree) (w x : Option Plain) (path : List ℕ) → SoundTree o t → SoundTree o u → IsChanged w (texts.ensure_multiline path) x → tree_marks.marks u ≡ tree_marks.marks t → SpreadAt path t u
     → Makes (document_of o t w) (texts.ensure_multiline path) (document_of o u x)
@@ -167,8 +169,7 @@ multiline_made o t u w _ path s r by_lines m a =
         spaces_leave o (subst (λ l. WithoutSpaces l kept) (sym of_t) first) (document_pieces o (document_alone o s.shaped)) (document_utf8 o s.shaped),
         blanks_leave o (subst (λ l. WithoutBlanks l kept) (sym of_u) second) (document_pieces o (document_alone o r.shaped)) (document_utf8 o r.shaped),
       ),
-      line_inside o r a w,
-      lines_so o r a.kind a.spreads a.lines a.changed w,
+      lines_so o s r a.kind a.spreads a.lines a.changed w,
     )
 
 -- commas alone have left, or come

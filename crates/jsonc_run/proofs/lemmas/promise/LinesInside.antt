@@ -12,25 +12,23 @@ use Rattle.jsonc_run.specs.texts.Entering as entering
 use Rattle.jsonc_run.specs.texts.Stretches.{IsLineEnd}
 use Rattle.jsonc_run.specs.texts.Entering.{Along, HasLineEnd}
 use Rattle.jsonc_tree.specs.Content.{Content, newline, token}
-use Rattle.jsonc_tree.specs.OrderedTree.{OrderedTree, none, more, leaves, followed_by}
+use Rattle.jsonc_tree.specs.OrderedTree.{OrderedTree, Top, none, more, leaves, followed_by}
 use Rattle.jsonc_sound.specs.Documents.{document_of}
 use Rattle.jsonc_sound.specs.Lines.{LinesEndLoosely}
 use Rattle.jsonc_sound.specs.Rows.{RowKind, of_values, of_properties, container_of, closing}
 use Rattle.jsonc_sound.specs.Shape as shape
 use Rattle.jsonc_sound.specs.Shape.{IsTrivia, Trivia, printed_text, token_then}
 use Rattle.jsonc_sound.specs.SoundTrees.{SoundTree}
-use Rattle.jsonc_sound.specs.TreeChanges.{leaves_of, IsElement}
+use Rattle.jsonc_sound.specs.TreeChanges.{leaves_of, DocumentChanged, IsElement}
 use Rattle.jsonc_sound.proofs.LooseLines.{Halts, Stops, loose_gap, trivia_gap}
 use Rattle.jsonc_sound.proofs.ShapeTexts.{trivia_utf8}
 use Rattle.jsonc_layout.specs.nodes.Kinds.{is_newline}
-use Rattle.jsonc_edit.specs.multiline.Reflows as reflows
-use Rattle.jsonc_edit.specs.multiline.Reflows.{has_newline, SpreadsOut}
-use Rattle.jsonc_edit.specs.multiline.Laws.{SpreadAt}
+use Rattle.jsonc_edit.specs.multiline.Reflows.{has_newline}
+use Rattle.jsonc_edit.specs.multiline.Laws.{bracketed}
 use Rattle.jsonc_run.specs.promise.PlaceLaws.{text_of_leaves}
 use Rattle.jsonc_run.proofs.lemmas.promise.Leaves.{back_of, text_joined}
 use Rattle.jsonc_run.proofs.lemmas.promise.LooseRows.{is_a_comma, is_a_leaf, is_entry, kind_of_row, row_reads, Reads}
 use Rattle.jsonc_sound.proofs.ShapeValues.{bracket_mark, brace_mark, comma_mark, mark_text}
-use Rattle.jsonc_run.proofs.lemmas.promise.Reversed.{flip}
 use Rattle.jsonc_run.proofs.lemmas.promise.Trivia.{line_end_text}
 use Rattle.jsonc_run.proofs.lemmas.promise.Values.{at_the_place}
 
@@ -130,21 +128,19 @@ newline_stays : (row close : OrderedTree) → has_newline row ≡ true → has_n
 newline_stays none close h = let wrong : false ≡ true = h in cc
 newline_stays (more content below after) close h = or_both (is_newline content) (has_newline after) (has_newline (followed_by after close)) (newline_stays after close) h
 
-spread_line : {x y : OrderedTree} → SpreadsOut x y → has_newline y ≡ true
-spread_line (reflows.stays h) = h
-spread_line (reflows.reflows e h k) = h
-
 pub opened : (kind : RowKind) (row : OrderedTree) → text_of_leaves (leaves_of (container_of kind row)) ≡ places.opening (kind_of_row kind) ∷ printed_text row
 opened of_values row = mark_text bracket_mark row
 opened of_properties row = mark_text brace_mark row
 
--- the container that has been put on several lines
-pub line_inside : (o : Options) {t u : OrderedTree} {path : List ℕ} → SoundTree o u → (a : SpreadAt path t u) (w : Option Plain) → HasLineEnd path (document_of o u w)
-line_inside o {u = u} {path = path} r a w =
-    let row : OrderedTree = followed_by a.new (token_then (closing a.kind) none) in
-    let place = at_the_place o r (flip a.changed) in
-    let back : List ℕ = text_of_leaves (back_of (flip a.changed)) in
-    let read = row_reads o back a.kind place.2 in
-    let line = walk o (kind_of_row a.kind) back row row shape.nothing read.0 read.1 (newline_stays a.new (token_then (closing a.kind) none) (spread_line a.spreads)) in
-    let own : text_of_leaves (leaves_of (container_of a.kind row)) ++ back ≡ places.opening (kind_of_row a.kind) ∷ (printed_text row ++ back) = ap (λ l. l ++ back) (opened a.kind row) in
-    (kind_of_row a.kind, text_of_leaves (leaves_of (container_of a.kind row)) ++ back, back, printed_text row ++ back, line.rest, line.char, place.1, own, line.along, line.ends)
+-- a container in whose row a line ends
+pub line_inside : (o : Options) (k : RowKind) (row : OrderedTree) {now : Top} {path : List ℕ} {t u : OrderedTree} → SoundTree o t → (d : DocumentChanged (bracketed k row) now path t u) → has_newline row ≡ true → (w : Option Plain)
+    → HasLineEnd path (document_of o t w)
+line_inside o k row s d h w =
+    let close : OrderedTree = token_then (closing k) none in
+    let with_bracket : OrderedTree = followed_by row close in
+    let place = at_the_place o s d in
+    let back : List ℕ = text_of_leaves (back_of d) in
+    let read = row_reads o back k place.2 in
+    let line = walk o (kind_of_row k) back with_bracket with_bracket shape.nothing read.0 read.1 (newline_stays row close h) in
+    let own : text_of_leaves (leaves_of (container_of k with_bracket)) ++ back ≡ places.opening (kind_of_row k) ∷ (printed_text with_bracket ++ back) = ap (λ l. l ++ back) (opened k with_bracket) in
+    (kind_of_row k, text_of_leaves (leaves_of (container_of k with_bracket)) ++ back, back, printed_text with_bracket ++ back, line.rest, line.char, place.1, own, line.along, line.ends)

@@ -1,9 +1,9 @@
 -- Where a property comes into an object of a sound tree, it comes into the text.
-use Rattle.std.proofs.Common.{ℕ, suc, min, ◌≡◌, ◌∙◌, sym, ap, subst, refl, List, [], ◌∷◌, ◌++◌, length, Option, Some}
+use Rattle.std.proofs.Common.{ℕ, suc, min, ◌≡◌, ◌∙◌, sym, ap, subst, refl, inl, inr, List, [], ◌∷◌, ◌++◌, length, Option, Some}
 use Rattle.jsonc_text.specs.Options.{Options}
 use Rattle.jsonc_text.specs.Plain as plain
 use Rattle.jsonc_text.specs.Plain.{Plain, Members, no_members, member}
-use Rattle.jsonc_tree.specs.OrderedTree.{OrderedTree}
+use Rattle.jsonc_tree.specs.OrderedTree.{OrderedTree, leaves}
 use Rattle.jsonc_tree.specs.Values.{DocumentValueOf}
 use Rattle.jsonc_sound.specs.Changes as trees
 use Rattle.jsonc_sound.specs.Leaving.{element_count}
@@ -21,10 +21,13 @@ use Rattle.jsonc_run.specs.texts.Entering.{Gains}
 use Rattle.jsonc_run.proofs.lemmas.promise.LaidTexts.{is_laid_property}
 use Rattle.jsonc_run.specs.texts.Edits.{insert, Makes}
 use Rattle.jsonc_run.proofs.lemmas.promise.Insides.{kept_texts}
-use Rattle.jsonc_run.proofs.lemmas.promise.Joined.{spread_good, spread_reflows}
+use Rattle.jsonc_run.proofs.lemmas.promise.Joined.{Good, spread_good, spread_reflows, with_row}
 use Rattle.jsonc_run.proofs.lemmas.promise.Leaves.{back_of, front_of}
 use Rattle.jsonc_run.specs.promise.PlaceLaws.{text_of_leaves}
-use Rattle.jsonc_run.proofs.lemmas.promise.Arriving.{text_comes}
+use Rattle.jsonc_run.proofs.lemmas.promise.Arriving.{SpreadsFrom, text_comes}
+use Rattle.jsonc_run.proofs.lemmas.promise.LacksLines.{lacks_line}
+use Rattle.jsonc_edit.specs.multiline.Reflows as reflows
+use Rattle.jsonc_edit.specs.multiline.Reflows.{has_newline, SpreadsOut}
 use Rattle.jsonc_run.proofs.lemmas.promise.Stretches.{laid_property_literals}
 use Rattle.jsonc_layout.specs.from_input.Texts.{IsCharacters, IsOfTexts}
 use Rattle.jsonc_insert.proofs.lemmas.elements.Marked.{kept_marks}
@@ -56,10 +59,17 @@ module _ (o : Options) {t u : OrderedTree} (s : SoundTree o t) (r : SoundTree o 
   same_count : {old new : Members} → trees.Changed (plain.object old) (plain.object new) path x y → element_count c.row ≡ member_count old
   same_count {old} g = as_many_members o h h2 of_properties c.row c.new c.changed g ∙ sym (members_counted (list_of_members old)) ∙ ap member_count (same_members old)
 
+  -- the object stays, or no line ended in it and it is put on several
+  spread_apart : (w : Option Plain) {row spread : OrderedTree} → SpreadsOut row spread → row ≡ c.row → Good o (leaves row)
+      → SpreadsFrom an_object path (document_of o t w) (with_row o of_properties (text_of_leaves (front_of c.changed)) (text_of_leaves (back_of c.changed)) (text_of_leaves (leaves row))) (with_row o of_properties (text_of_leaves (front_of c.changed)) (text_of_leaves (back_of c.changed)) (text_of_leaves (leaves spread)))
+  spread_apart w (reflows.stays h) e g = inl refl
+  spread_apart w (reflows.reflows h q p) e g =
+      inr (lacks_line o of_properties c.row s c.changed (ap has_newline (sym e) ∙ h) w, spread_reflows o of_properties (text_of_leaves (front_of c.changed)) (text_of_leaves (back_of c.changed)) (reflows.reflows h q p) g)
+
   pub member_gains : {n : ℕ} {old new : Members} → trees.Changed (plain.object old) (plain.object new) path x y → (k : MemberGained name v n old new) → min j (member_count old) ≡ length k.front → Gains an_object path k.front k.back (entry_of name v) (document_of o t (Some x)) (document_of o u (Some y))
   member_gains {old = old} {new = new} g k number =
       let comes = text_comes o of_properties c.row c.kept c.new s r c.changed (Some x) (Some y) (spread_texts c.spreads ∙ kept_texts c.leave) (kept_marks c.leave ∙ spread_marks o c.spreads) refl (written an_object (entry_of name v)) (laid_property_literals c.layout name v f.0 f.1) (IsLaidEntry an_object (entry_of name v)) (is_laid_property o c.layout name v f.0 f.1) c.spread c.leave
-      (λ g. (spread_good o of_properties (text_of_leaves (front_of c.changed)) (text_of_leaves (back_of c.changed)) c.spreads g, spread_reflows o of_properties (text_of_leaves (front_of c.changed)) (text_of_leaves (back_of c.changed)) c.spreads g)) c.comes in (
+      (λ w g. (spread_good o of_properties (text_of_leaves (front_of c.changed)) (text_of_leaves (back_of c.changed)) c.spreads g, spread_apart w c.spreads refl g)) c.comes in (
         subst (λ (p : Members). Changed (of an_object (k.front ++ k.back)) (plain.object p) path x y) k.after (subst (λ (p : Members). Changed (plain.object p) (plain.object new) path x y) k.before (changed g)),
         comes.0,
         comes.1,

@@ -1,8 +1,7 @@
 -- Where an entry leaves a sound tree, it leaves the text so.
-use Rattle.std.proofs.Common.{ℕ, ◌+◌, ◌≡◌, ◌∙◌, sym, ap, subst, refl, Bool, true, false, List, [], ◌∷◌, ◌++◌, Option, chars, arith, encode_utf8}
+use Rattle.std.proofs.Common.{ℕ, ◌+◌, ◌≡◌, ◌∙◌, inl, inr, sym, ap, subst, refl, Bool, true, false, List, [], ◌∷◌, ◌++◌, Option, chars, arith, encode_utf8}
 use Rattle.std.proofs.lemmas.List.{append_assoc, append-nil}
 use Rattle.jsonc_text.specs.Options.{Options}
-use Rattle.jsonc_text.specs.Text as many
 use Rattle.jsonc_text.specs.Plain.{Plain}
 use Rattle.jsonc_tree.specs.Content.{Content, token}
 use Rattle.jsonc_tree.specs.OrderedTree.{OrderedTree, none, leaves, Top}
@@ -52,9 +51,9 @@ module _ (o : Options) where
   comma_then rest u = text_joined (token 0x2C ∷ []) rest (u.0, tt) ∙ ap (λ l. l ++ text_of_leaves rest) comma_text
 
   rest_text : {line : List Content} → IsRestOfLine line → Pieces o line → AllUtf8 line → Trail false (text_of_leaves line)
-  rest_text (without_end line h) p u = subst (Trail false) (append-nil (text_of_leaves line)) (texts.rest_of_line (beside_text o line h p) many.stop)
+  rest_text (without_end line h) p u = subst (Trail false) (append-nil (text_of_leaves line)) (texts.rest_of_line (beside_text o line h p) (inl refl))
   rest_text (with_end line end h n) p u =
-      subst (Trail false) (sym (text_joined line (end ∷ []) (utf8_first line (end ∷ []) u))) (texts.rest_of_line (beside_text o line h (pieces_first o line (end ∷ []) p)) (end_text o end n))
+      subst (Trail false) (sym (text_joined line (end ∷ []) (utf8_first line (end ∷ []) u))) (texts.rest_of_line (beside_text o line h (pieces_first o line (end ∷ []) p)) (inr (end_text end n)))
 
   pub trail_text : {b : Bool} {c m line : List Content} → Commas b c m line → Pieces o line → AllUtf8 line → Trail b (text_of_leaves line)
   trail_text (behind_it (comma_alone between t)) p u =
@@ -66,7 +65,7 @@ module _ (o : Options) where
       text_joined between (token 0x2C ∷ tail) (utf8_first between (token 0x2C ∷ tail) u)
       ∙ ap (λ l. text_of_leaves between ++ l) (comma_then tail later ∙ ap (λ l. 0x2C ∷ l) (text_joined line (end ∷ []) (utf8_first line (end ∷ []) later.1))) in
       let second = pieces_second o between (token 0x2C ∷ tail) p in
-      subst (Trail true) (sym text) (texts.and_line (beside_text o between b (pieces_first o between (token 0x2C ∷ tail) p)) (beside_text o line h (pieces_first o line (end ∷ []) second.1)) (end_text o end n))
+      subst (Trail true) (sym text) (texts.and_line (beside_text o between b (pieces_first o between (token 0x2C ∷ tail) p)) (beside_text o line h (pieces_first o line (end ∷ []) second.1)) (end_text end n))
   trail_text (ahead_of_it mid rl) p u = rest_text rl p u
   trail_text (nowhere rl) p u = rest_text rl p u
 

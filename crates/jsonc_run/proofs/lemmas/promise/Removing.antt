@@ -247,7 +247,7 @@ module _ {kind : RowKind} {top : Top} {path : List ℕ} {t u : OrderedTree} {f b
       let tail : OrderedTree = token_then 0x2C (leaves_then line back) in
       let behind : leaves (leaves_then between tail) ≡ (between ++ (comma ∷ line)) ++ leaves back =
       front_leaves between tail (between_trivia lb) ∙ ap (λ l. between ++ (comma ∷ l)) (front_leaves line back (line_trivia lb)) ∙ sym (append_assoc between (comma ∷ line) (leaves back)) in
-      gone_ahead front back given before (between ++ (comma ∷ line)) _ true (behind_it lb) the_one_behind be d space
+      gone_ahead front back given before (between ++ (comma ∷ line)) _ true (behind_it lb) (the_one_behind front (leaves_then line back) before between refl element trivia (between_trivia lb) behind) be d space
       (leaves-followed_by front (among before top between tail) ∙ ap (λ l. leaves front ++ l) (among_leaves before top between tail trivia (between_trivia lb) ∙ ap (λ l. before ++ (leaves_of top ++ l)) (sym (front_leaves between tail (between_trivia lb)) ∙ behind)))
       (λ y q. renumber (none_more (element_count front)) (past_row front (reaching.past_leaves before trivia (rest_as behind (at_first (leaves_then between tail) element q)))))
   gone_of (comma_before front mid back given_mid given before line be rl free not_come space_mid space) d =
@@ -294,7 +294,7 @@ module _ (o : Options) {t u : OrderedTree} (s : SoundTree o t) (r : SoundTree o 
       let trail = trail_text o g.commas (pieces_first o k.trail k.back p5) (utf8_first k.trail k.back u5) in
       let behind = rest_pieces o k.trail g.rest b k.back g.back u5 in
       let entry = subst (λ z. Entry (path ++ i ∷ []) o (printed_text t) (text_of_leaves own ++ z) z) behind (entry_in kind d.itself g.reached) in
-      let comma = comma_so o s kind d.itself g.which k.back (sym g.back) in
+      let comma = comma_so o s kind d.itself i g.which k.back (sym g.back) in
       let old : printed_text t ≡ text_of_leaves k.front ++ (text_of_leaves k.comma ++ (text_of_leaves k.mid ++ (text_of_leaves k.lead ++ (text_of_leaves own ++ (text_of_leaves k.trail ++ text_of_leaves k.back))))) =
       ap text_of_leaves k.before ∙ text_cons k.front behind_front utf8 (text_cons k.comma behind_comma u1 (text_cons k.mid behind_mid u2 (text_cons k.lead behind_lead u3 (text_cons own behind_own u4 (text_cons k.trail k.back u5 refl))))) in
       let utf8_new = subst AllUtf8 k.after (document_utf8 o r.shaped) in
@@ -392,8 +392,8 @@ left_unspaced front _ _ blanks c h (space_first quiet rest silent last first) e 
     let m = without_space (leaves front ++ leaves quiet) (leaves rest) blanks c h parts in
     record { blanks = m.blanks; are = m.are; is = ap (λ l. leaves front ++ l) (leaves-followed_by quiet rest) ∙ sym (append_assoc (leaves front) (leaves quiet) (leaves rest)) ∙ m.is }
 
-no_text : {o : Options} {text lead entry rest : List ℕ} {b : Bool} → Comma o text lead entry rest b (text_of_leaves []) (text_of_leaves []) → Comma o text lead entry rest b [] []
-no_text {o} {text} {lead} {entry} {rest} {b} c = subst (λ l. Comma o text lead entry rest b l l) chars-nil c
+no_text : {o : Options} {path text lead entry rest : List ℕ} {b : Bool} → Comma path o text lead entry rest b (text_of_leaves []) (text_of_leaves []) → Comma path o text lead entry rest b [] []
+no_text {o} {path} {text} {lead} {entry} {rest} {b} c = subst (λ l. Comma path o text lead entry rest b l l) chars-nil c
 
 module _ (o : Options) (kind : RowKind) {top : Top} {path : List ℕ} {t u : OrderedTree} {f ar : List Content} (s : SoundTree o t) (r : SoundTree o u) (w x : Option Plain) where
   -- the entry leaves, and with it all blanks that are left
@@ -433,7 +433,7 @@ module _ (o : Options) (kind : RowKind) {top : Top} {path : List ℕ} {t u : Ord
       let behind : text_of_leaves (trail ++ bk) ++ text_of_leaves ar ≡ text_of_leaves trail ++ (text_of_leaves k.rest ++ text_of_leaves back) =
       rest_pieces o trail bk ar behind_trail tail u4 ∙ ap (λ l. text_of_leaves trail ++ l) (text_cons k.rest back u5 refl) in
       let entry = subst (λ z. Entry (path ++ i ∷ []) o (printed_text t) (text_of_leaves own ++ z) z) behind (entry_in o s r kind d.itself reach) in
-      let comma = comma_so o s kind d.itself which behind_trail (sym tail) in
+      let comma = comma_so o s kind d.itself i which behind_trail (sym tail) in
       let back_text : text_of_leaves behind_trail ≡ text_of_leaves k.rest ++ text_of_leaves back = text_cons k.rest back u5 refl in
       let blank = subst AreBlanks k.before un.are in
       let parted = gone_parted o s w (front ++ fr) lead own trail k.rest back (text_of_leaves k.rest) (old ∙ sym (append_assoc front fr behind_fr)) beside (entry_begins o kind s d.itself.changed reach behind_own) refl in
@@ -456,7 +456,7 @@ module _ (o : Options) (kind : RowKind) {top : Top} {path : List ℕ} {t u : Ord
         entry,
         beside_text o lead beside (pieces_first o lead behind_lead p2),
         trail_text o commas (pieces_first o trail behind_trail p4) (utf8_first trail behind_trail u4),
-        no_text (subst (λ z. Comma o (printed_text t) (text_of_leaves lead) (text_of_leaves own ++ (text_of_leaves trail ++ z)) (text_of_leaves trail ++ z) b (text_of_leaves []) (text_of_leaves [])) back_text comma),
+        no_text (subst (λ z. Comma (path ++ i ∷ []) o (printed_text t) (text_of_leaves lead) (text_of_leaves own ++ (text_of_leaves trail ++ z)) (text_of_leaves trail ++ z) b (text_of_leaves []) (text_of_leaves [])) back_text comma),
         blanks_text o fr (blanks_first fr k.rest blank) (pieces_first o fr behind_fr p1),
         blanks_text o k.rest (blanks_second fr k.rest blank) (pieces_first o k.rest back p5),
         inl refl,
@@ -485,7 +485,7 @@ module _ (o : Options) (kind : RowKind) {top : Top} {path : List ℕ} {t u : Ord
       let alone_row = container_row o kind (at_the_place o s d.itself.changed).2.shaped in
       let parts = parted_at o kind front before top between tail trivia (between_trivia lb) element alone_row in
       let some = row_some o (past_leaves o kind line (line_trivia lb) (at_comma o kind parts.behind).1) in
-      close_up c d (leaves front) before (between ++ (comma ∷ line)) (leaves back) true (behind_it lb) the_one_behind be (left_unspaced front back given blanks c h space e) some
+      close_up c d (leaves front) before (between ++ (comma ∷ line)) (leaves back) true (behind_it lb) (the_one_behind front (leaves_then line back) before between refl element trivia (between_trivia lb) behind) be (left_unspaced front back given blanks c h space e) some
       (leaves-followed_by front (among before top between tail) ∙ ap (λ l. leaves front ++ l) (among_leaves before top between tail trivia (between_trivia lb) ∙ ap (λ l. before ++ (leaves_of top ++ l)) (sym (front_leaves between tail (between_trivia lb)) ∙ behind)))
       (λ y q. renumber (none_more (element_count front)) (past_row front (reaching.past_leaves before trivia (rest_as behind (at_first (leaves_then between tail) element q)))))
   closes_so element (comma_before front mid back given_mid given before line be rl free not_come space_mid space) blanks c h e d =

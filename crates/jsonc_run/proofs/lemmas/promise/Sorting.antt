@@ -1,8 +1,9 @@
 -- Where the entries of an array or object come in another order in a sound tree, they do so in the text.
-use Rattle.std.proofs.Common.{◌≡◌, ◌⊎◌, ℕ, zero, suc, ◌+◌, ◌<◌, Bool, true, false, cond, List, [], ◌∷◌, ◌++◌, length, map, get_or, count_by, Option, Some, refl, sym, ap, subst, ◌∙◌, arith, inl, inr}
+use Rattle.std.proofs.Common.{◌≡◌, ◌≢◌, ◌⊎◌, ℕ, zero, suc, ◌+◌, ◌<◌, Bool, true, false, cond, List, [], ◌∷◌, ◌++◌, length, map, get_or, count_by, Option, Some, refl, sym, ap, subst, ◌∙◌, arith, inl, inr}
 use Rattle.std.specs.Prelude.{IsPermutation}
 use Rattle.std.specs.List.{fold, range_with_len}
 use Rattle.std.proofs.lemmas.Bool.{cases_Bool}
+use Rattle.std.proofs.lemmas.Bool.Decides.{not_from_Decides}
 use Rattle.std.proofs.lemmas.List.{append_assoc}
 use Rattle.std.proofs.lemmas.List.Sorted.{length_permutation}
 use Rattle.std.proofs.lemmas.Slice.Eq.{bytes_eq-Decides}
@@ -360,7 +361,7 @@ module _ (o : Options) {t u : OrderedTree} {x y : Plain} (path order : List ℕ)
     )
 
   abbrev Outcome : places.Kind → List ℕ → Type 0
-  Outcome kind order = ((order ≡ range_with_len 0 (length order)) × (printed_text u ≡ printed_text t)) ⊎ Moves kind path order (document_of o t (Some x)) (document_of o u (Some y))
+  Outcome kind order = ((order ≡ range_with_len 0 (length order)) × (printed_text u ≡ printed_text t)) ⊎ ((order ≢ range_with_len 0 (length order)) × Moves kind path order (document_of o t (Some x)) (document_of o u (Some y)))
 
   outcome : Outcome (kind_of_row a.kind) order
   outcome =
@@ -369,7 +370,7 @@ module _ (o : Options) {t u : OrderedTree} {x y : Plain} (path order : List ℕ)
         | inl e ↦ (
             let same : container_before a.kind a.top a.sort ≡ container_after a.kind a.top a.sort = rw e refl in
             inl ((bytes_eq-Decides a.sort.order (range_with_len 0 (length a.sort.order))).0 e, ap printed_text (sym (document_same same a.changed))))
-        | inr e ↦ inr (moves e)
+        | inr e ↦ inr (not_from_Decides (is_unchanged a.sort.order) (bytes_eq-Decides a.sort.order (range_with_len 0 (length a.sort.order))) e, moves e)
       ])
 
   outcome_as : (k : places.Kind) → k ≡ kind_of_row a.kind → Outcome k order

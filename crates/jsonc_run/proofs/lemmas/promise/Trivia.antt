@@ -19,7 +19,7 @@ use Rattle.jsonc_sound.specs.Leaving.{AreInlineTrivia}
 use Rattle.jsonc_sound.specs.TriviaChanges.{AreTrivia}
 use Rattle.jsonc_sound.proofs.Pieces.{Piece, Pieces, a_literal, a_name, a_trivia}
 use Rattle.jsonc_run.specs.texts.Stretches as documents
-use Rattle.jsonc_run.specs.texts.Stretches.{Trivia, InLine, AreLineEnds, IsLineEnd}
+use Rattle.jsonc_run.specs.texts.Stretches.{Trivia, InLine, IsLineEnd}
 use Rattle.jsonc_run.specs.promise.PlaceLaws.{text_of_leaves}
 
 pub newline_chars : (k : CstNewlineKind) → chars (newline_text k) ≡ newline_text k
@@ -44,6 +44,10 @@ line_end_text k = subst IsLineEnd (sym (ap chars (append-nil (newline_text k)) �
     by LineFeed = documents.line_feed
     by CarriageReturnLineFeed = documents.both
     by CarriageReturn = documents.carriage_return
+
+pub end_text : (content : Content) → IsTrue (is_newline content) → IsLineEnd (text_of_leaves (content ∷ []))
+end_text (Content.newline k) h = line_end_text k
+end_text content h = cc
 
 blanks_before : {p : ℕ → Bool} {s r : List ℕ} (t : List ℕ) → ((c : ℕ) → IsTrue (is_inner_blank c) → IsTrue (is_blank c && p c)) → Many is_inner_blank s r → r ≡ [] → Trivia p t → Trivia p (s ++ t)
 blanks_before {p} t f stop e h = subst (λ x. Trivia p (x ++ t)) (sym e) h
@@ -101,13 +105,3 @@ module _ (o : Options) where
       let t = piece_trivia (Content.comment s) refl p.0 in
       subst (Trivia (λ c. true)) (sym (first_text (Content.comment s) ls t.1.0)) (documents.comment t.1.1 (trivia_text ls h.1 p.1))
   trivia_text (content ∷ ls) h p = cc
-
-  -- the end of a line prints ends of lines
-  pub end_text : (content : Content) → IsTrue (is_newline content) → AreLineEnds (text_of_leaves (content ∷ []))
-  end_text (Content.newline k) h = subst AreLineEnds (sym (first_text (Content.newline k) [] (trivia_utf8 o (Content.newline k) tt) ∙ ap (λ x. chars (newline_text k) ++ x) chars-nil ∙ ap (λ x. x ++ []) (newline_chars k))) (by k)
-    where
-      by : (k : CstNewlineKind) → AreLineEnds (newline_text k ++ [])
-      by LineFeed = step refl stop
-      by CarriageReturnLineFeed = step refl (step refl stop)
-      by CarriageReturn = step refl stop
-  end_text content h = cc
