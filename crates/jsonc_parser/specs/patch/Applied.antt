@@ -27,7 +27,8 @@ use Rattle.jsonc_parser.specs.patch.Asked.{asked, FitsIn}
 use Rattle.jsonc_parser.specs.patch.Failing.{FindsAnother, GoesIntoItself, HasNoTarget, MeetsTwice, ReferToNothing}
 use Rattle.jsonc_parser.specs.patch.Found.{IsOfShown, RefersToNode, RefersToNothing}
 use Rattle.jsonc_parser.specs.patch.Operations as value
-use Rattle.jsonc_parser.specs.patch.Operations.{MakesAll, Makes}
+use Rattle.jsonc_parser.specs.patch.MadeBy.{IsMadeBy}
+use Rattle.jsonc_parser.specs.patch.Operations.{LeadInOrder, MakesAll, Makes}
 use Rattle.jsonc_parser.specs.patch.Pointer.{tokens_of}
 use Rattle.jsonc_parser.specs.patch.References.{FailsAt, IsIndex, RefersTo}
 use Rattle.jsonc_parser.specs.declared.patch.apply.PatchFault.{PatchFault}
@@ -52,9 +53,11 @@ LeadsOn front tokens = (rest : List (List ℕ)) × (tokens ≡ front ++ rest)
 abbrev pub Takes : Document → List (List ℕ) → Plain → Type 0
 Takes d tokens taken = (v : Plain) × RefersTo d.value tokens v × (taken ≡ collapse v)
 
--- Edits lead from the one document to the other, of the same options, and between their values the operation does. A document within the depth stays so.
-pub record IsMade (A : Type 0) (d : Document) (operation : value.Operation) (e : Document) : Type 0 where
+-- The edits by which the operation is made lead from the one document to the other, of the same options, and between their values the operation does. A document within the
+-- depth stays so.
+pub record IsMade (A : Type 0) (operation : value.Operation) (d e : Document) : Type 0 where
   pub edits : List (Edit A)
+  pub own : IsMadeBy d.value operation (map (operation_of unsorted) edits)
   pub edited : EditsTo d edits e
   pub options : e.options ≡ d.options
   pub made : Makes operation d.value e.value
@@ -78,7 +81,7 @@ module _ {A : Type 0} where
 
   -- so it is of whatever document the old one shows, if the numbers that are written fit
   abbrev pub MakesWhatShown : CstRootNode A → value.Operation → (Options → Type 0) → CstRootNode A → Type 0
-  MakesWhatShown old operation Fit new = (d : Document) → Shows d (tree_of old) → Fit d.options → (e : Document) × Shows e (tree_of new) × IsMade A d operation e
+  MakesWhatShown old operation Fit new = (d : Document) → Shows d (tree_of old) → Fit d.options → (e : Document) × Shows e (tree_of new) × IsMade A operation d e
 
   -- the value is added where these tokens lead, of which all but the last refer to the node
   abbrev pub AddsMember : CstRootNode A → CstNode → List (List ℕ) → List ℕ → Plain → CstRootNode A → Type 0
@@ -160,10 +163,10 @@ module _ {A : Type 0} where
     pub tree : tree_of new ≡ tree_of old
     pub nodes : Keeps (length (nodes_of old)) (nodes_of old) (nodes_of new)
 
-  -- The operations lead from the value of the one document to that of the other, and edits from the one to the other. A document within the depth stays so.
+  -- The operations lead from the one document to the other, of the same options: each, by its own edits, from the document that the one before it made to the next. So they lead
+  -- from the value of the one to that of the other. A document within the depth stays so.
   pub record IsPatched (d : Document) (operations : List (Operation A)) (e : Document) : Type 0 where
-    pub edits : List (Edit A)
-    pub edited : EditsTo d edits e
+    pub steps : LeadInOrder (IsMade A) (map asked operations) d e
     pub options : e.options ≡ d.options
     pub made : MakesAll (map asked operations) d.value e.value
     pub within : StaysWithin d e

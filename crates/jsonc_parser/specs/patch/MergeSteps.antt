@@ -7,15 +7,14 @@ use Rattle.jsonc_text.specs.declared.edit.EditError.TheVariants.{NestingDepthExc
 use Rattle.jsonc_edit.specs.Writing.{IsOfNumbers, AreNamedOfNumbers}
 use Rattle.jsonc_layout.specs.input.Views.{chars_of}
 use Rattle.jsonc_sound.specs.Documents.{Shows}
-use Rattle.jsonc_run.specs.declared.edit.Edit.{Edit}
-use Rattle.jsonc_run.specs.promise.Asked.{EditsTo}
 use Rattle.jsonc_cst.specs.declared.cst.CstRootNode.{CstRootNode}
 use Rattle.jsonc_cst.specs.Document.{tree_of}
 use Rattle.jsonc_run.specs.promise.Within.{StaysWithin}
-use Rattle.jsonc_parser.specs.patch.Applied.{IsNoRoom}
+use Rattle.jsonc_parser.specs.patch.Applied.{IsMade, IsNoRoom}
 use Rattle.jsonc_parser.specs.patch.Failing.{ReferToNothing}
-use Rattle.jsonc_parser.specs.patch.Merging.{GoesInto, Merges, Stops}
-use Rattle.jsonc_parser.specs.patch.Operations.{Removes}
+use Rattle.jsonc_parser.specs.patch.Merged.{MergesIn}
+use Rattle.jsonc_parser.specs.patch.Merging.{GoesInto, Stops}
+use Rattle.jsonc_parser.specs.patch.Operations.{remove}
 use Rattle.jsonc_parser.specs.patch.PatchFaults.{RepeatsName}
 use Rattle.jsonc_parser.specs.patch.References.{FailsAt, IsRepeated, RefersTo}
 use Rattle.jsonc_parser.specs.declared.patch.making.PatchCause.{PatchCause}
@@ -33,29 +32,27 @@ pub data IsPlace (w : Option Plain) : List (List ℕ) → Type 0 where
   in_object : {tokens : List (List ℕ)} (name : List ℕ) → RefersToObject w tokens → IsPlace w (tokens ++ name ∷ [])
 
 -- what the tokens refer to is removed, if they refer to something
-abbrev pub Drops : List (List ℕ) → Option Plain → Option Plain → Type 0
-Drops tokens w y = Removes tokens w y ⊎ (ReferToNothing w tokens × (y ≡ w))
+abbrev pub Drops : Type 0 → List (List ℕ) → Document → Document → Type 0
+Drops A tokens d e = IsMade A (remove tokens) d e ⊎ (ReferToNothing d.value tokens × (e ≡ d))
 
 -- where the patch does not go into the value, it is merged
-abbrev pub Sets : List (List ℕ) → Plain → Option Plain → Option Plain → Type 0
-Sets tokens p w y = ¬ (GoesInto p tokens w) → Merges tokens p w y
+abbrev pub Sets : Type 0 → List (List ℕ) → Plain → Document → Document → Type 0
+Sets A tokens p d e = ¬ (GoesInto p tokens d.value) → MergesIn A tokens p d e
 
 -- null drops the value, and any other patch is merged
-abbrev pub MergesNamed : List (List ℕ) → Plain → Option Plain → Option Plain → Type 0
-MergesNamed tokens p w y = (p ≡ null → Drops tokens w y) × (p ≢ null → Merges tokens p w y)
+abbrev pub MergesNamed : Type 0 → List (List ℕ) → Plain → Document → Document → Type 0
+MergesNamed A tokens p d e = (p ≡ null → Drops A tokens d e) × (p ≢ null → MergesIn A tokens p d e)
 
--- Edits lead from the one document to the other, of the same options, and so between their values. A document within the depth stays so.
-pub record IsReached (A : Type 0) (d : Document) (Leads : Option Plain → Option Plain → Type 0) (e : Document) : Type 0 where
-  pub edits : List (Edit A)
-  pub edited : EditsTo d edits e
+-- so the one document leads to the other, of the same options; and a document within the depth stays so
+pub record IsReached (d : Document) (Leads : Document → Document → Type 0) (e : Document) : Type 0 where
   pub options : e.options ≡ d.options
-  pub leads : Leads d.value e.value
+  pub leads : Leads d e
   pub within : StaysWithin d e
 
 module _ {A : Type 0} where
   -- so it is of whatever document the old one shows, if the numbers that are written fit
-  abbrev pub ReachesWhatShown : CstRootNode A → (Options → Type 0) → (Option Plain → Option Plain → Type 0) → CstRootNode A → Type 0
-  ReachesWhatShown old Fit Leads new = (d : Document) → Shows d (tree_of old) → Fit d.options → (e : Document) × Shows e (tree_of new) × IsReached A d Leads e
+  abbrev pub ReachesWhatShown : CstRootNode A → (Options → Type 0) → (Document → Document → Type 0) → CstRootNode A → Type 0
+  ReachesWhatShown old Fit Leads new = (d : Document) → Shows d (tree_of old) → Fit d.options → (e : Document) × Shows e (tree_of new) × IsReached d Leads e
 
   -- a name occurs twice where the tokens are looked up, or there was no memory, or a value would be nested too deep
   abbrev pub IsTwice : Option Plain → List (List ℕ) → PatchCause A → Type 0

@@ -1,25 +1,30 @@
 -- What merging makes of a document, and why it is not made.
-use Rattle.std.specs.Prelude.{◌≡◌, ◌⊎◌, [], List, Some}
+use Rattle.std.specs.Prelude.{◌≡◌, ◌⊎◌, [], ℕ, List, Some}
 use Rattle.jsonc_text.specs.Documents.{Document}
-use Rattle.jsonc_text.specs.Plain.{Plain}
+use Rattle.jsonc_text.specs.Plain.{Members, Plain}
 use Rattle.jsonc_edit.specs.Writing.{IsOfNumbers}
 use Rattle.jsonc_layout.specs.input.Views.{chars_of}
 use Rattle.jsonc_sound.specs.Documents.{Shows}
-use Rattle.jsonc_run.specs.declared.edit.Edit.{Edit}
-use Rattle.jsonc_run.specs.promise.Asked.{EditsTo}
 use Rattle.jsonc_run.specs.promise.Within.{StaysWithin}
 use Rattle.jsonc_cst.specs.declared.cst.CstRootNode.{CstRootNode}
 use Rattle.jsonc_cst.specs.Document.{tree_of}
+use Rattle.jsonc_parser.specs.patch.Applied.{IsMade}
 use Rattle.jsonc_parser.specs.patch.Found.{IsOfShown}
-use Rattle.jsonc_parser.specs.patch.Merging.{Merges, Stops}
+use Rattle.jsonc_parser.specs.patch.Merging.{MembersMergeBy, Merges, MergesBy, Stops}
 use Rattle.jsonc_parser.specs.patch.PatchFaults.{RepeatsName}
 use Rattle.jsonc_parser.specs.declared.patch.merging.MergeFault.{MergeFault}
 use Rattle.jsonc_parser.specs.declared.patch.merging.MergeFault.TheVariants.{RepeatedName, NestingDepthExceeded, OutOfMemory}
 
--- Edits lead from the one document to the other, of the same options, and between their values merging does, at the whole. A document within the depth stays so.
+-- merging, of documents: what is removed and what is added is so by the edits of a patch that does this alone
+abbrev pub MergesIn : Type 0 → List (List ℕ) → Plain → Document → Document → Type 0
+MergesIn A tokens p d e = MergesBy (λ (x : Document). x.value) (IsMade A) tokens p d e
+
+abbrev pub MembersMergeIn : Type 0 → List (List ℕ) → Members → Document → Document → Type 0
+MembersMergeIn A tokens ms d e = MembersMergeBy (λ (x : Document). x.value) (IsMade A) tokens ms d e
+
+-- Merging leads from the one document to the other, of the same options, and so between their values, at the whole. A document within the depth stays so.
 pub record IsMerged (A : Type 0) (d : Document) (p : Plain) (e : Document) : Type 0 where
-  pub edits : List (Edit A)
-  pub edited : EditsTo d edits e
+  pub steps : MergesIn A [] p d e
   pub options : e.options ≡ d.options
   pub merged : Merges [] p d.value e.value
   pub within : StaysWithin d e

@@ -4,7 +4,7 @@ use Rattle.jsonc_text.specs.Plain.{Plain, null, boolean, number, string, array, 
 use Rattle.jsonc_run.specs.texts.Entries.{members, Named}
 use Rattle.jsonc_parser.specs.patch.Equality.{AreEqual}
 use Rattle.jsonc_parser.specs.patch.Failing.{ReferToNothing}
-use Rattle.jsonc_parser.specs.patch.Operations.{Adds, Removes}
+use Rattle.jsonc_parser.specs.patch.Operations.{add, remove, Makes, Operation}
 use Rattle.jsonc_parser.specs.patch.References.{FailsAt, RefersTo}
 
 -- what merging makes where there is no value: of an object its members, but for those of the value null, and so in their values
@@ -34,22 +34,32 @@ GoesInto p tokens w = (ms ns : Members) × (p ≡ object ms) × RefersTo w token
 abbrev pub IsThere : Plain → List (List ℕ) → Option Plain → Type 0
 IsThere v tokens w = (x : Plain) × RefersTo w tokens x × AreEqual (λ s t. s ≡ t) v (collapse x)
 
-mutual
-  -- A patch goes into an object member by member. Else what it makes of nothing is the value, or takes its place.
-  pub data Merges : List (List ℕ) → Plain → Option Plain → Option Plain → Type 0 where
-    inside : {tokens : List (List ℕ)} {ms ns : Members} {w y : Option Plain} → RefersTo w tokens (object ns) → MembersMerge tokens ms w y → Merges tokens (object ms) w y
-    same : {tokens : List (List ℕ)} {p : Plain} {w : Option Plain} → ¬ (GoesInto p tokens w) → IsThere (made_of p) tokens w → Merges tokens p w w
-    put : {tokens : List (List ℕ)} {p : Plain} {w y : Option Plain} → ¬ (GoesInto p tokens w) → ¬ (IsThere (made_of p) tokens w) → Adds (made_of p) tokens w y → Merges tokens p w y
+-- What merging leads to may be said of values, and of documents: by the value that each of them has, and by what it is for an operation of a patch to lead from one to another.
+module _ {S : Type 0} (value_of : S → Option Plain) (Leads : Operation → S → S → Type 0) where
+  mutual
+    -- A patch goes into an object member by member. Else what it makes of nothing is the value, and nothing changes, or is added in its place.
+    pub data MergesBy : List (List ℕ) → Plain → S → S → Type 0 where
+      inside : {tokens : List (List ℕ)} {ms ns : Members} {w y : S} → RefersTo (value_of w) tokens (object ns) → MembersMergeBy tokens ms w y → MergesBy tokens (object ms) w y
+      same : {tokens : List (List ℕ)} {p : Plain} {w : S} → ¬ (GoesInto p tokens (value_of w)) → IsThere (made_of p) tokens (value_of w) → MergesBy tokens p w w
+      put : {tokens : List (List ℕ)} {p : Plain} {w y : S} → ¬ (GoesInto p tokens (value_of w)) → ¬ (IsThere (made_of p) tokens (value_of w)) → Leads (add tokens (made_of p)) w y
+          → MergesBy tokens p w y
 
-  -- One after another: for null the member of the name is removed, if there is one; any other value is merged at the name.
-  pub data MembersMerge : List (List ℕ) → Members → Option Plain → Option Plain → Type 0 where
-    no_more : {tokens : List (List ℕ)} {w : Option Plain} → MembersMerge tokens no_members w w
-    removed : {tokens : List (List ℕ)} {name : List ℕ} {ms : Members} {w u y : Option Plain} → Removes (tokens ++ name ∷ []) w u → MembersMerge tokens ms u y
-        → MembersMerge tokens (member name null ms) w y
-    absent : {tokens : List (List ℕ)} {name : List ℕ} {ms : Members} {w y : Option Plain} → ReferToNothing w (tokens ++ name ∷ []) → MembersMerge tokens ms w y
-        → MembersMerge tokens (member name null ms) w y
-    merged : {tokens : List (List ℕ)} {name : List ℕ} {p : Plain} {ms : Members} {w u y : Option Plain} → p ≢ null → Merges (tokens ++ name ∷ []) p w u → MembersMerge tokens ms u y
-        → MembersMerge tokens (member name p ms) w y
+    -- One after another: for null the member of the name is removed, if there is one; any other value is merged at the name.
+    pub data MembersMergeBy : List (List ℕ) → Members → S → S → Type 0 where
+      no_more : {tokens : List (List ℕ)} {w : S} → MembersMergeBy tokens no_members w w
+      removed : {tokens : List (List ℕ)} {name : List ℕ} {ms : Members} {w u y : S} → Leads (remove (tokens ++ name ∷ [])) w u → MembersMergeBy tokens ms u y
+          → MembersMergeBy tokens (member name null ms) w y
+      absent : {tokens : List (List ℕ)} {name : List ℕ} {ms : Members} {w y : S} → ReferToNothing (value_of w) (tokens ++ name ∷ []) → MembersMergeBy tokens ms w y
+          → MembersMergeBy tokens (member name null ms) w y
+      merged : {tokens : List (List ℕ)} {name : List ℕ} {p : Plain} {ms : Members} {w u y : S} → p ≢ null → MergesBy (tokens ++ name ∷ []) p w u → MembersMergeBy tokens ms u y
+          → MembersMergeBy tokens (member name p ms) w y
+
+-- of values
+abbrev pub Merges : List (List ℕ) → Plain → Option Plain → Option Plain → Type 0
+Merges tokens p w y = MergesBy (λ (x : Option Plain). x) Makes tokens p w y
+
+abbrev pub MembersMerge : List (List ℕ) → Members → Option Plain → Option Plain → Type 0
+MembersMerge tokens ms w y = MembersMergeBy (λ (x : Option Plain). x) Makes tokens ms w y
 
 -- Behind the members of a patch that were merged, the place of the next fails: its name, the last token, is that of more than one member. Or so it is below it.
 pub data Stops (name : List ℕ) : List (List ℕ) → Plain → Option Plain → Type 0 where

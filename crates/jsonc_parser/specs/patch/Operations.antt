@@ -43,9 +43,9 @@ Removes tokens w y = (path : List ℕ) × (x : Plain) × RefersAlong w tokens pa
 abbrev pub Replaces : Plain → List (List ℕ) → Option Plain → Option Plain → Type 0
 Replaces v tokens w y = (path : List ℕ) × (x : Plain) × RefersAlong w tokens path x × Becomes x v path w y
 
--- the first tokens do not begin the others, or are they all
+-- the first tokens do not begin the others
 abbrev pub LeadsElsewhere : List (List ℕ) → List (List ℕ) → Type 0
-LeadsElsewhere from to = (token : List ℕ) (rest : List (List ℕ)) → to ≢ from ++ token ∷ rest
+LeadsElsewhere from to = (rest : List (List ℕ)) → to ≢ from ++ rest
 
 -- both are tokens that refer to an object, and one more; and the second refer to nothing
 pub record IsWithinObject (from to : List (List ℕ)) (w : Option Plain) : Type 0 where
@@ -84,7 +84,10 @@ Makes (move from to) w y = Moves from to w y
 Makes (copy from to) w y = Copies from to w y
 Makes (test tokens v) w y = Tests tokens v w y
 
--- 3: so do operations, each from where the one before it led
-pub data MakesAll : List Operation → Option Plain → Option Plain → Type 0 where
-  none_made : {w : Option Plain} → MakesAll [] w w
-  one_made : {o : Operation} {os : List Operation} {w x y : Option Plain} → Makes o w x → MakesAll os x y → MakesAll (o ∷ os) w y
+-- 3: so do operations, each from where the one before it led. This may be said of values, and of documents, by what it is for one operation to lead from one to another.
+pub data LeadInOrder {S : Type 0} (Leads : Operation → S → S → Type 0) : List Operation → S → S → Type 0 where
+  none_made : {w : S} → LeadInOrder Leads [] w w
+  one_made : {o : Operation} {os : List Operation} {w x y : S} → Leads o w x → LeadInOrder Leads os x y → LeadInOrder Leads (o ∷ os) w y
+
+abbrev pub MakesAll : List Operation → Option Plain → Option Plain → Type 0
+MakesAll os w y = LeadInOrder Makes os w y

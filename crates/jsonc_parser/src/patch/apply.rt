@@ -43,6 +43,11 @@ impl<A: Allocator + fmt::Debug> Error for PatchFault<A> {}
 impl<A: Allocator + Copy> Patch<A> {
     /// Makes the operations in order, each in the document that the ones before it made.
     ///
+    /// Each operation is one edit at the value, array or object that its pointer leads to, and no other place changes:
+    /// `remove` and `replace` are the edits of these names; `add` inserts or appends, or replaces the value of the
+    /// property that has the name, or sets the document's value; `copy` is an `add`. A `move` is a removal and an
+    /// addition. A `test`, and a move of a value to where it is, change nothing.
+    ///
     /// What is added to an object is put after its other members, or in the place of the value of the one that
     /// has the name. A value that is copied or moved is taken with all of its members, those of equal names too, and
     /// written as edits write values; but a member that is moved within its object, to a name that no member has, gets

@@ -1,17 +1,20 @@
-//! Laws of pointers, of merges and of names in faults: each is the contract of a function that does nothing.
+//! Laws of pointers, patches and merges, and of names in faults: each is the contract of a function that does nothing.
 
 ghost use Rattle.std.specs.Prelude.{◌≡◌, [], ℕ, All, List, Option, false};
+ghost use Rattle.jsonc_text.specs.Documents.{Document};
 ghost use Rattle.jsonc_text.specs.Plain.{Plain};
 ghost use Rattle.jsonc_cst.specs.declared.cst.CstRootNode.{CstRootNode};
 ghost use Rattle.jsonc_cst.specs.declared.cst.node.CstNode.{CstNode};
+ghost use Rattle.jsonc_parser.specs.patch.Applied.{IsPatched};
 ghost use Rattle.jsonc_parser.specs.patch.Equality.{HasUniqueNames};
-ghost use Rattle.jsonc_parser.specs.patch.Laws.{FailsWithNone, IsReadBack, RefersToOne};
+ghost use Rattle.jsonc_parser.specs.patch.Laws.{AreTests, FailsWithNone, IsReadBack, RefersToOne};
 ghost use Rattle.jsonc_parser.specs.patch.Locations.{LeadsBack};
 ghost use Rattle.jsonc_parser.specs.patch.MergeCases.{cases, AllHold};
 ghost use Rattle.jsonc_parser.specs.patch.MergePatch.{IsEqualToMergePatch, IsMergePatch, RepeatsNoName};
 ghost use Rattle.jsonc_parser.specs.patch.Merging.{Merges};
 ghost use Rattle.jsonc_parser.specs.patch.Pointer.{pointer_text, HasLooseTilde, LacksSlash};
 ghost use Rattle.jsonc_parser.specs.patch.Quoting.{is_unseen, shown_inside};
+ghost use Rattle.jsonc_parser.specs.declared.patch.operation.Operation.{Operation};
 
 use std::alloc::Allocator;
 
@@ -39,6 +42,11 @@ pub fn pointers_refer_to_one_value()
 /// [`pointer_of`](super::pointer_of) answers.
 pub fn pointers_lead_back<A: Allocator>()
     ensures { (doc : CstRootNode A) (node : CstNode) (tokens : List (List ℕ)) → LeadsBack doc node tokens }
+{}
+
+/// A patch of tests alone leads from a document to itself: no byte of its text changes.
+pub fn tests_change_nothing<A: Allocator>()
+    ensures { (d e : Document) (operations : List (Operation A)) → AreTests operations → IsPatched d operations e → e ≡ d }
 {}
 
 /// What [`merge`](super::merge) makes of the value of a document is what `MergePatch` of RFC 7396 makes of it, with its

@@ -9,10 +9,10 @@ ghost use Rattle.jsonc_parser.specs.patch.Applied.{IsKept};
 ghost use Rattle.jsonc_parser.specs.patch.Equality.{HasUniqueNames};
 ghost use Rattle.jsonc_parser.specs.patch.FaultMessages.{merge_fault_text};
 ghost use Rattle.jsonc_parser.specs.patch.Found.{IsOfShown};
-ghost use Rattle.jsonc_parser.specs.patch.Merged.{MergesWhatShown, MergeStopsWhatShown};
+ghost use Rattle.jsonc_parser.specs.patch.Merged.{MembersMergeIn, MergesIn, MergesWhatShown, MergeStopsWhatShown};
 ghost use Rattle.jsonc_parser.specs.patch.MergeSteps.{Drops, FailsToMerge, FailsToMergeAll, FailsToSet, IsTwice, MergesNamed};
 ghost use Rattle.jsonc_parser.specs.patch.MergeSteps.{IsReportedAs, ReachesWhatShown, RefersToObject, Sets};
-ghost use Rattle.jsonc_parser.specs.patch.Merging.{made_of, members_made, IsThere, Merges, MembersMerge};
+ghost use Rattle.jsonc_parser.specs.patch.Merging.{made_of, members_made, IsThere};
 ghost use Rattle.jsonc_parser.specs.patch.Pointer.{tokens_of};
 ghost use Rattle.jsonc_text.specs.Plain.{member, no_members, object};
 
@@ -130,7 +130,7 @@ fn set_value<A: Allocator + Copy>(
     patch: &CstInputValue<A>,
 ) -> Result<(), PatchCause<A>>
     ensures set { OnOk result
-        (ReachesWhatShown doc.old (λ o. IsOfNumbers o (plain patch.now)) (Sets (tokens_of pointer.now) (plain patch.now)) doc.new) }
+        (ReachesWhatShown doc.old (λ o. IsOfNumbers o (plain patch.now)) (Sets A (tokens_of pointer.now) (plain patch.now)) doc.new) }
     ensures fails { IfErr result (FailsToSet doc.old (tokens_of pointer.now)) }
 {
     let Ok(new) = made_value(*doc.allocator(), patch) else {
@@ -151,7 +151,7 @@ fn drop_value<A: Allocator + Copy>(
     doc: &mut CstRootNode<A>,
     pointer: &Pointer<A>,
 ) -> Result<(), PatchCause<A>>
-    ensures dropped { OnOk result (ReachesWhatShown doc.old (λ o. Unit {0}) (Drops (tokens_of pointer.now)) doc.new) }
+    ensures dropped { OnOk result (ReachesWhatShown doc.old (λ o. Unit {0}) (Drops A (tokens_of pointer.now)) doc.new) }
     ensures fails { IfErr result (λ cause. IsOfShown doc.old (λ d. IsTwice d.value (tokens_of pointer.now) cause)) }
 {
     match remove(doc, pointer) {
@@ -169,7 +169,7 @@ fn merge_value<A: Allocator + Copy>(
     patch: &CstInputValue<A>,
 ) -> Result<(), PatchCause<A>>
     ensures merged { OnOk result
-        (ReachesWhatShown doc.old (λ o. IsOfNumbers o (plain patch.now)) (Merges (tokens_of pointer.old) (plain patch.now)) doc.new) }
+        (ReachesWhatShown doc.old (λ o. IsOfNumbers o (plain patch.now)) (MergesIn A (tokens_of pointer.old) (plain patch.now)) doc.new) }
     ensures pointer { OnOk result (tokens_of pointer.new ≡ tokens_of pointer.old) }
     ensures fails { IfErr result (FailsToMerge doc.old (tokens_of pointer.old) (plain patch.now)) }
 {
@@ -188,7 +188,7 @@ fn merge_object<A: Allocator + Copy>(
     patch: &CstInputValue<A>,
 ) -> Result<(), PatchCause<A>>
     ensures merged { OnOk result (plain patch.now ≡ object (members_plain members.now)
-        → ReachesWhatShown doc.old (λ o. IsOfNumbers o (plain patch.now)) (Merges (tokens_of pointer.old) (plain patch.now)) doc.new) }
+        → ReachesWhatShown doc.old (λ o. IsOfNumbers o (plain patch.now)) (MergesIn A (tokens_of pointer.old) (plain patch.now)) doc.new) }
     ensures pointer { OnOk result (tokens_of pointer.new ≡ tokens_of pointer.old) }
     ensures fails { IfErr result (λ cause. plain patch.now ≡ object (members_plain members.now)
         → FailsToMerge doc.old (tokens_of pointer.old) (plain patch.now) cause) }
@@ -208,7 +208,7 @@ fn merge_named<A: Allocator + Copy>(
     patch: &CstInputValue<A>,
 ) -> Result<(), PatchCause<A>>
     ensures merged { OnOk result
-        (ReachesWhatShown doc.old (λ o. IsOfNumbers o (plain patch.now)) (MergesNamed (tokens_of pointer.old) (plain patch.now)) doc.new) }
+        (ReachesWhatShown doc.old (λ o. IsOfNumbers o (plain patch.now)) (MergesNamed A (tokens_of pointer.old) (plain patch.now)) doc.new) }
     ensures pointer { OnOk result (tokens_of pointer.new ≡ tokens_of pointer.old) }
     ensures fails { IfErr result (FailsToMerge doc.old (tokens_of pointer.old) (plain patch.now)) }
 {
@@ -228,7 +228,7 @@ fn merge_member<A: Allocator + Copy>(
 ) -> Result<(), PatchCause<A>>
     ensures merged { OnOk result
         (ReachesWhatShown doc.old (λ o. IsOfNumbers o (plain patch.now))
-        (MembersMerge (tokens_of pointer.old) (member (chars_of name.now) (plain patch.now) no_members)) doc.new) }
+        (MembersMergeIn A (tokens_of pointer.old) (member (chars_of name.now) (plain patch.now) no_members)) doc.new) }
     ensures pointer { OnOk result (tokens_of pointer.new ≡ tokens_of pointer.old) }
     ensures fails { IfErr result (FailsToMerge doc.old (tokens_of pointer.old ++ chars_of name.now ∷ []) (plain patch.now)) }
 {
@@ -254,7 +254,7 @@ fn merge_members<A: Allocator + Copy>(
     members: &[(String<A>, CstInputValue<A>)],
 ) -> Result<(), PatchCause<A>>
     ensures merged { OnOk result
-        (ReachesWhatShown doc.old (λ o. AreNamedOfNumbers o (members_plain members.now)) (MembersMerge (tokens_of pointer.old) (members_plain members.now)) doc.new) }
+        (ReachesWhatShown doc.old (λ o. AreNamedOfNumbers o (members_plain members.now)) (MembersMergeIn A (tokens_of pointer.old) (members_plain members.now)) doc.new) }
     ensures pointer { OnOk result (tokens_of pointer.new ≡ tokens_of pointer.old) }
     ensures fails { IfErr result (FailsToMergeAll doc.old (tokens_of pointer.old) (members_plain members.now)) }
 {

@@ -47,6 +47,7 @@ fn stay<A: Allocator + Copy>(
 ) -> Result<(), PatchCause<A>>
     requires { LeadsOn (tokens_of from.now) (tokens_of path.now) }
     ensures stays { OnOk result (IsOfShown doc.now (λ d. standard.Moves (tokens_of from.now) (tokens_of path.now) d.value d.value)) }
+    ensures same { OnOk result (tokens_of from.now ≡ tokens_of path.now) }
     ensures fails { IfErr result (FailsWhatShown doc.now (standard.move (tokens_of from.now) (tokens_of path.now))) }
 {
     match target(doc, from.tokens()) {

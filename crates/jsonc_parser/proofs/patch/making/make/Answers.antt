@@ -80,7 +80,7 @@ pub returns-in-Test-clause-made : goal.returns-in-Test-clause-made
 returns-in-Test-clause-made g c =
     let doc = c.args.doc.now in
     let v = c.in-Test.value in
-    as_asked doc doc c.test.result c.args.operation.now (Test c.in-Test.path v) c.in-Test.is (tested doc doc c.test.result (value.test (tokens_of c.in-Test.path) (plain v)) (λ o. Unit {0}) refl c.test.ensures.tests)
+    as_asked doc doc c.test.result c.args.operation.now (Test c.in-Test.path v) c.in-Test.is (tested doc doc c.test.result (tokens_of c.in-Test.path) (plain v) (λ o. Unit {0}) refl c.test.ensures.tests)
 
 pub returns-in-Test-clause-kept : goal.returns-in-Test-clause-kept
 returns-in-Test-clause-kept g c = unchanged_kept c.args.doc.now c.test.result c.args.operation.now

@@ -4,7 +4,7 @@ use Rattle.jsonc_layout.specs.input.Views.{plain}
 use Rattle.jsonc_cst.specs.Document.{nodes_of}
 use Rattle.jsonc_parser.specs.patch.Operations as value
 use Rattle.jsonc_parser.specs.patch.Pointer.{tokens_of}
-use Rattle.jsonc_parser.proofs.lemmas.patch.Chains.{leads_elsewhere, leads_told, moved_so, tested}
+use Rattle.jsonc_parser.proofs.lemmas.patch.Chains.{leads_elsewhere, leads_told, moved_so, stayed}
 use Rattle.jsonc_parser.proofs.lemmas.patch.Contents.{contents_through, contents_unchanged}
 use Rattle.jsonc_parser.proofs.lemmas.patch.Failing.{moves_no_more, unmoved, unmoved_first}
 use Rattle.jsonc_parser.proofs.lemmas.patch.Renaming.{never_within}
@@ -15,7 +15,7 @@ stay-requires g c = (leads_told _ (tokens_of c.args.from.now) _ (tokens_of c.arg
 
 pub returns-then-leads_on-clause-made : goal.returns-then-leads_on-clause-made
 returns-then-leads_on-clause-made g c =
-    tested c.args.doc.now c.args.doc.now c.stay.result (value.move (tokens_of c.args.from.now) (tokens_of c.args.path.now)) (λ o. Unit {0}) refl c.stay.ensures.stays
+    stayed c.args.doc.now c.args.doc.now c.stay.result (tokens_of c.args.from.now) (tokens_of c.args.path.now) (λ o. Unit {0}) refl c.stay.ensures.same c.stay.ensures.stays
 
 pub returns-in-Ok-add-clause-made : goal.returns-in-Ok-add-clause-made
 returns-in-Ok-add-clause-made g c =
