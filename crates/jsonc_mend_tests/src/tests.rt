@@ -1,3 +1,4 @@
+mod documents;
 mod mended;
 mod rows;
 mod told;

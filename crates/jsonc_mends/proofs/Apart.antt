@@ -1,9 +1,10 @@
 -- Changes in order and apart, by their places in two texts.
-use Rattle.std.proofs.Common.{ℕ, zero, suc, ◌≡◌, ◌+◌, ◌-◌, ◌<◌, ◌≤◌, ◌∙◌, ◌⊎◌, inl, inr, sym, ap, subst, List, [], ◌∷◌, ◌++◌, length, map, get_or, leb, true, false, Option, Some, None, IfNone, ◌≢◌, arith, chars, IsUtf8, IsCharBoundary, append_assoc, zero-add}
+use Rattle.std.proofs.Common.{ℕ, zero, suc, ◌≡◌, ◌+◌, ◌-◌, ◌<◌, ◌≤◌, ◌∙◌, ◌⊎◌, inl, inr, sym, ap, subst, List, [], ◌∷◌, ◌++◌, length, map, get_or, leb, true, false, Option, Some, None, IfNone, ◌≢◌, arith, le-leb, Bool, chars, IsUtf8, IsCharBoundary, append_assoc, zero-add}
+use Rattle.std.specs.Bool.{Decides}
 use Rattle.std.specs.List.{All}
 use Rattle.std.specs.List.Sorted.{IsNonDecreasingBy, IsPartitionPoint}
 use Rattle.std.proofs.lemmas.Bool.{cases_lt, leb-false, leb-true}
-use Rattle.std.proofs.lemmas.List.{append-nil}
+use Rattle.std.proofs.lemmas.List.{append-nil, get_or_default}
 use Rattle.std.proofs.lemmas.List.Elements.{All-nil, All-cons, All-head, All-tail, All-push, All-same, All-get_or}
 use Rattle.std.proofs.lemmas.Str.{encodes-chars, IsCharBoundary-start}
 use Rattle.jsonc_text.specs.Text.{rest, byte_length, Spans}
@@ -13,7 +14,7 @@ use Rattle.jsonc_mend.specs.Changes.{Changes, none, kept, changed, change_of}
 use Rattle.jsonc_mends.specs.declared.told.Mend.{Mend}
 use Rattle.jsonc_mends.specs.declared.places.Side.{Side}
 use Rattle.jsonc_mends.specs.declared.places.Side.TheVariants.{Text, Mended}
-use Rattle.jsonc_mends.specs.Places.{Apart, Begun, GoesWith, bytes_in, other, before, inside, behind}
+use Rattle.jsonc_mends.specs.Places.{Apart, Begun, GoesWith, IsWrittenBy, bytes_in, other, before, inside, behind}
 use Rattle.jsonc_mends.specs.Told.{change_in}
 
 -- the same of changes alone
@@ -101,6 +102,59 @@ module _ (s : Side) where
   not_past i j place (m ∷ ms) n k (suc x) d h l from to next =
       not_past (bytes_in s m).end (bytes_in (other s) m).end place ms n k x d h.4 (omega (arith, l)) from to (λ z. next (omega (arith, z)))
 
+  -- each ends before the next ones begin
+  ends_first : (i j : ℕ) (ms : List Mend) (n k x y : ℕ) (d : Mend) → Apart s i j ms n k → x < y → y < length ms → (bytes_in s (get_or ms x d)).end ≤ (bytes_in s (get_or ms y d)).start
+  ends_first i j [] n k x y d h lt l = omega (arith, l)
+  ends_first i j (m ∷ ms) n k x zero d h lt l = omega (arith, lt)
+  ends_first i j (m ∷ ms) n k zero (suc y) d h lt l = low (bytes_in s m).end (bytes_in (other s) m).end ms n k y d h.4 (omega (arith, l))
+  ends_first i j (m ∷ ms) n k (suc x) (suc y) d h lt l = ends_first (bytes_in s m).end (bytes_in (other s) m).end ms n k x y d h.4 (omega (arith, lt)) (omega (arith, l))
+
+-- bytes that one change wrote are those of the last change that begins at their start or before it
+writer : (ms : List Mend) (n k start end count : ℕ) (m : Mend) → Apart Mended 0 0 ms n k → Begun Mended ms start count → count ≢ 0 → m ≡ get_or ms (count - 1) m → IsWrittenBy ms start end → end ≤ m.written.end
+writer ms n k start end count m h b z e w = found (cases_lt w.change count) (cases_lt w.change (count - 1))
+  where
+    begins : (get_or ms (count - 1) m).written.start ≤ start
+    begins = b.begun (count - 1) m (omega (arith, z))
+
+    found : (w.change < count) ⊎ (count ≤ w.change) → (w.change < count - 1) ⊎ (count - 1 ≤ w.change) → end ≤ m.written.end
+    found (inr l) q =
+        let later : start < (get_or ms w.change m).written.start = b.later w.change m l w.there in
+        let from : (get_or ms w.change m).written.start ≤ start = w.from m in
+        omega arith
+    found (inl l) (inl q) =
+        let before : (get_or ms w.change m).written.end ≤ (get_or ms (count - 1) m).written.start = ends_first Mended 0 0 ms n k w.change (count - 1) m h q (omega (arith, z, b.bound)) in
+        let to : end ≤ (get_or ms w.change m).written.end = w.to m in
+        let some : start < end = w.some in
+        omega arith
+    found (inl l) (inr q) =
+        let same : w.change ≡ count - 1 = omega (arith, l, q) in
+        subst (λ x. end ≤ x.written.end) (sym e) (subst (λ x. end ≤ (get_or ms x m).written.end) same (w.to m))
+
+pub decides_written : (ms : List Mend) (n k start end count : ℕ) (m : Mend) → Apart Mended 0 0 ms n k → start < end → Begun Mended ms start count → count ≢ 0 → m ≡ get_or ms (count - 1) m
+    → Decides (leb end m.written.end) (IsWrittenBy ms start end)
+decides_written ms n k start end count m h lt b z e = (
+  λ t. record {
+    some = lt;
+    change = count - 1;
+    there = omega (arith, b.bound, z);
+    from = λ d. b.begun (count - 1) d (omega (arith, z));
+    to = λ d. subst (λ x. end ≤ x.written.end) (e ∙ get_or_default ms (count - 1) m d (omega (arith, b.bound, z))) (leb-true _ _ t);
+  },
+  λ w. le-leb end m.written.end (writer ms n k start end count m h b z e w),
+)
+
+-- no change wrote them, where none begins at their start or before it
+pub none_written : (ms : List Mend) (start end : ℕ) → Begun Mended ms start 0 → IsWrittenBy ms start end → ⊥
+none_written [] start end b w = let there : w.change < 0 = w.there in omega arith
+none_written (m ∷ ms) start end b w =
+    let later : start < (get_or (m ∷ ms) w.change m).written.start = b.later w.change m (omega arith) w.there in
+    let from : (get_or (m ∷ ms) w.change m).written.start ≤ start = w.from m in
+    omega arith
+
+-- the same of a list that is lent
+pub decides_in : (xs ys : List Mend) (n k start end : ℕ) (b : Bool) → ys ≡ xs → Apart Mended 0 0 xs n k → ((n k : ℕ) → Apart Mended 0 0 ys n k → Decides b (IsWrittenBy ys start end)) → Decides b (IsWrittenBy xs start end)
+decides_in xs ys n k start end b e h f = subst (λ l. Decides b (IsWrittenBy l start end)) e (f n k (subst (λ l. Apart Mended 0 0 l n k) (sym e) h))
+
 -- the changes that begin at a place or before it, as they are found in a list in order
 pub begun_by : (s : Side) (ms : List Mend) (place count : ℕ) → count ≤ length ms → IsPartitionPoint (λ m. leb (bytes_in s m).start place ≡ true) (λ m. leb (bytes_in s m).start place ≡ false) ms count → Begun s ms place count
 begun_by s ms place count l point = record {
@@ -167,6 +221,10 @@ written_there m t ms xs number x part u h e l g f =
     let P : Mend → Type 0 = λ y. Spans m y.written.start y.written.end in
     let all : All P xs = All-same P xs ms e (writes_part m ms u h) in
     subst (λ b. Spans b x.written.start x.written.end) (sym f) (subst P (sym g) (All-get_or P xs number x l all))
+
+pub in_any : {T P : Type 0} (r : Option T) → P → IfNone r P
+in_any None p = p
+in_any (Some x) p = tt
 
 pub if_none : {T P Q : Type 0} (r : Option T) → (P → Q) → IfNone r P → IfNone r Q
 if_none None f p = f p

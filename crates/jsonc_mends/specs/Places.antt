@@ -30,12 +30,24 @@ pub data GoesWith (s : Side) (ms : List Mend) (place : ℕ) : ℕ → Type 0 whe
   behind : (count : ℕ) (m : Mend) → Begun s ms place (count + 1) → m ≡ slice_index_or ms count m → (bytes_in s m).end ≤ place
       → GoesWith s ms place ((place - (bytes_in s m).end) + (bytes_in (other s) m).end)
 
+-- the place of the text that goes with this one of the mended text
+abbrev pub GoesBack : List Mend → ℕ → ℕ → Type 0
+GoesBack ms place text_place = GoesWith Mended ms place text_place
+
 -- changes in order and apart, from the places i and j of the two texts on, up to the places n and k; what is between them is as long in both
 abbrev pub Apart : Side → ℕ → ℕ → List Mend → ℕ → ℕ → Type 0
 Apart s i j [] n k = (i ≤ n) × (n + j ≡ k + i)
 Apart s i j (m ∷ ms) n k = (i ≤ (bytes_in s m).start) × ((bytes_in s m).start + j ≡ (bytes_in (other s) m).start + i)
     × ((bytes_in s m).start ≤ (bytes_in s m).end) × ((bytes_in (other s) m).start ≤ (bytes_in (other s) m).end)
     × Apart s (bytes_in s m).end (bytes_in (other s) m).end ms n k
+
+-- there are bytes from the one place of the changed text to the other, and one change wrote all of them
+pub record IsWrittenBy (ms : List Mend) (start end : ℕ) : Type 0 where
+  pub some : start < end
+  pub change : ℕ
+  pub there : change < length ms
+  pub from : (d : Mend) → (slice_index_or ms change d).written.start ≤ start
+  pub to : (d : Mend) → end ≤ (slice_index_or ms change d).written.end
 
 -- these bytes of a text
 pub record IsPart (bytes : List ℕ) (r : Range) (part : List ℕ) : Type 0 where

@@ -10,5 +10,5 @@ mod places;
 mod told;
 
 pub use jsonc_mend::changes::Fault;
-pub use mends::{Mends, mend};
+pub use mends::{Mends, TextChange, mend};
 pub use told::Mend;

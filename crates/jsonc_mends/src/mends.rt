@@ -1,15 +1,16 @@
 //! The mends of a text.
+ghost use Rattle.std.specs.Bool.{Decides};
 ghost use Rattle.std.specs.Prelude.{◌≡◌, ◌≤◌, IfNone, IfOk, IfSome, IsUtf8, List, chars, length, string_bytes, true, ℕ};
 ghost use Rattle.jsonc_text.specs.Options.{Options};
 ghost use Rattle.jsonc_text.specs.OptionsOf.{parse_options};
 ghost use Rattle.jsonc_check.specs.Checker.{HasValueWithin};
 ghost use Rattle.jsonc_mend.specs.Changes.{IsMade};
-ghost use Rattle.jsonc_mends.specs.Mends.{IsMended, IsWritten};
-ghost use Rattle.jsonc_mends.specs.Places.{GoesWith};
+ghost use Rattle.jsonc_mends.specs.Mends.{IsChangeOf, IsMended, IsWritten};
+ghost use Rattle.jsonc_mends.specs.Places.{GoesWith, IsWrittenBy};
 ghost use Rattle.jsonc_mends.specs.Told.{HasFirst, IsTold};
 ghost use Rattle.jsonc_mends.specs.declared.places.Side.TheVariants.{Text, Mended};
 
-use crate::places::{Side, part_of, place_in};
+use crate::places::{Side, lies_in, part_of, place_in};
 use crate::told::{Mend, Told, told_changes, told_of};
 use jsonc_check::check_document;
 use jsonc_mend::changes::{Changed, make_changes};
@@ -17,6 +18,15 @@ use jsonc_mend::recovery::Recovery;
 use jsonc_text::common::Range;
 use jsonc_text::options::ParseOptions;
 use std::alloc::{AllocError, Allocator};
+
+/// A stretch of a text, and the text that replaces it. The stretch may begin or end inside a CR LF.
+#[derive(Clone, Copy, Debug, PartialEq, Eq)]
+pub struct TextChange<'n> {
+    /// The bytes of the old text that are replaced.
+    pub range: Range,
+    /// The text in their place.
+    pub new_text: &'n str,
+}
 
 /// The faults of a text, each with a change, and the document that all changes make of it.
 #[derive(Drop)]
@@ -35,6 +45,14 @@ impl<A: Allocator> Mends<A> {
         self.text.as_str()
     }
 
+    /// The text with all changes made, and the faults with their changes. Nothing is copied.
+    pub fn into_parts(self) -> (String<A>, Vec<Mend, A>)
+        ensures text { string_bytes result.0 ≡ string_bytes self.text }
+        ensures list { result.1.items ≡ self.list.items }
+    {
+        (self.text, self.list)
+    }
+
     /// The faults with their changes, in order.
     pub fn list(&self) -> &[Mend]
         ensures { result.now ≡ self.now.list.items }
@@ -50,6 +68,29 @@ impl<A: Allocator> Mends<A> {
     {
         let mend = self.list.get(number)?;
         part_of(self.text.as_str(), mend.written)
+    }
+
+    /// The change of a number, counted from 0, as a change of the text. None where there is no such change.
+    pub fn change(&self, number: usize) -> Option<TextChange<'_>>
+        ensures change { IfSome result (λ change. IsChangeOf self.now number change.range change.new_text.now) }
+        ensures none { (o : Options) (bytes : List ℕ) → IsMended o bytes self.now
+            → IfNone result (length self.now.list.items ≤ number) }
+    {
+        let mend = self.list.get(number)?;
+        let new_text = self.new_text(number)?;
+        Some(TextChange {
+            range: mend.range,
+            new_text,
+        })
+    }
+
+    /// Whether some bytes of the mended text were all written by one change. None were, where the range has none. The time
+    /// is logarithmic.
+    pub fn is_written(&self, range: Range) -> bool
+        ensures { (o : Options) (bytes : List ℕ) → IsUtf8 bytes → IsMended o bytes self.now
+            → Decides result (IsWrittenBy self.now.list.items range.start range.end) }
+    {
+        lies_in(self.list.as_slice(), range)
     }
 
     /// The place of the mended text that goes with a place of the text, which is counted in bytes. The time is logarithmic.

@@ -1,8 +1,10 @@
 //! Places of a text and of its mended text, by the changes between the two.
+ghost use Rattle.std.specs.Bool.{Decides};
 ghost use Rattle.std.specs.Prelude.{◌+◌, ◌-◌, ◌<◌, ◌≤◌, ◌≡◌, IfNone, IfSome, ℕ, length};
 ghost use Rattle.std.specs.List.Sorted.{IsNonDecreasingBy};
 ghost use Rattle.jsonc_text.specs.Text.{Spans};
-ghost use Rattle.jsonc_mends.specs.Places.{Apart, Begun, GoesWith, IsPart, bytes_in, other};
+ghost use Rattle.jsonc_mends.specs.Places.{Apart, Begun, GoesWith, IsPart, IsWrittenBy, bytes_in, other};
+ghost use Rattle.jsonc_mends.specs.declared.places.Side.TheVariants.{Mended};
 
 use crate::told::Mend;
 use jsonc_text::common::Range;
@@ -60,6 +62,20 @@ pub(crate) fn place_in(list: &[Mend], side: Side, place: usize, limit: usize) ->
         return place;
     }
     place_after(&list[count - 1], side, place, limit)
+}
+
+/// Whether a range of the mended text has bytes, and lies within what one change writes.
+pub(crate) fn lies_in(list: &[Mend], range: Range) -> bool
+    ensures { (n k : ℕ) → Apart Mended 0 0 list.now n k → Decides result (IsWrittenBy list.now range.start range.end) }
+{
+    if range.end <= range.start {
+        return false;
+    }
+    let count = count_to(list, Side::Mended, range.start);
+    if count == 0 {
+        return false;
+    }
+    range.end <= list[count - 1].written.end
 }
 
 /// A part of a text.

@@ -10,7 +10,7 @@ use std::default::Default;
 use std::test::Fail;
 
 /// The options of a dialect.
-fn options_of(dialect: Dialect) -> ParseOptions {
+pub fn options_of(dialect: Dialect) -> ParseOptions {
     match dialect {
         Dialect::Json => ParseOptions::json(),
         Dialect::Jsonc => ParseOptions::jsonc(),

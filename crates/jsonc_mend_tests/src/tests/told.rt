@@ -1,6 +1,7 @@
 //! What is told of each fault of one text, and places of the text and of its mended text.
 
 use jsonc_mends::{Mends, mend};
+use jsonc_text::common::Range;
 use jsonc_text::errors::ParseErrorKind;
 use jsonc_text::options::ParseOptions;
 use std::alloc::{AllocError, Allocator, Global};
@@ -78,6 +79,52 @@ fn places_go_with_one_another(rt: HostRuntime) -> Result<(), Fail> {
     assert!(rt; places_match(&mends));
     assert_eq!(rt; mends.mended_place(18), 18);
     assert_eq!(rt; mends.text_place(19), 17);
+    Ok(())
+}
+
+/// Ranges of the mended text, and whether one change wrote all of each.
+static RANGES: [(usize, usize, bool); 7] = [
+    (10, 11, true),
+    (10, 12, false),
+    (10, 10, false),
+    (9, 11, false),
+    (18, 23, true),
+    (19, 20, true),
+    (11, 18, false),
+];
+
+/// Whether each range was written as its row says.
+fn are_written<A: Allocator>(mends: &Mends<A>) -> bool {
+    RANGES.iter().all(|(start, end, written)| {
+        mends.is_written(Range::new(*start, *end)) == *written
+    })
+}
+
+/// Whether the change of each number is the row's.
+fn are_changes<A: Allocator>(mends: &Mends<A>) -> bool {
+    for number in 0..ROWS.len() {
+        let (_, _, _, start, end, new) = ROWS[number];
+        let Some(change) = mends.change(number) else {
+            return false;
+        };
+        if change.range != Range::new(start, end) || change.new_text != new {
+            return false;
+        }
+    }
+    mends.change(ROWS.len()).is_none()
+}
+
+#[test]
+fn changes_are_those_of_the_text(rt: HostRuntime) -> Result<(), Fail> {
+    let mends = mends_of(rt.alloc())?;
+    assert!(rt; are_changes(&mends));
+    assert!(rt; are_written(&mends));
+    let (text, list) = mends.into_parts();
+    assert_eq!(rt;
+        text.as_str(),
+        "{\n  \"a\": 1, \"\u{e9}\": \"tru\",\n  \"b\": [1, 2]\n}"
+    );
+    assert_eq!(rt; list.len(), ROWS.len());
     Ok(())
 }
 
