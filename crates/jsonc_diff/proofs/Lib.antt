@@ -1,0 +1,3 @@
+pub mod FirstLines
+pub mod Scripts
+pub mod Shown

@@ -1,0 +1,4 @@
+pub mod Diffs
+pub mod Going
+pub mod Lines
+pub mod Scripts

@@ -1,0 +1,5 @@
+use Rattle.jsonc_view.proofs.Making.{stays}
+use Rattle.jsonc_view.proofs.maker.ViewMakerReceiverString.null.Goals as goal
+
+pub returns-clause-made : goal.returns-clause-made
+returns-clause-made g c = stays c.args.self.now tt

@@ -1,0 +1,5 @@
+//! The tests.
+
+mod memory;
+mod reads;
+mod texts;
