@@ -1,7 +1,10 @@
-//! What `lint` finds, and the faults of `check` as JSON.
+//! What `lint` finds, the fault of `check` as JSON, and the faults of `check --all`.
 use crate::inputs::{CLOSED, REFUSED, read_or_tell, text_or_tell, write_out};
+use crate::mends::{mend_findings, push_mends};
+use crate::moved::lint_all;
 use crate::telling::tell_cause;
-use jsonc_lint::{Finding, Findings, Rules, fault_finding, json_array, lint};
+use jsonc_lint::{Finding, Findings, Rules, fault_finding, json_array};
+use jsonc_mends::mend;
 use jsonc_parser::{ParseOptions, check_document};
 use jsonc_words::call::{Format, Input};
 use std::alloc::{AllocError, Global};
@@ -11,6 +14,8 @@ use std::alloc::{AllocError, Global};
 pub(crate) struct Search {
     /// Whether more than faults is looked for.
     is_lint: bool,
+    /// Whether all faults are looked for, and not the first alone.
+    finds_all: bool,
     trailing_commas: bool,
     is_json: bool,
 }
@@ -19,8 +24,19 @@ pub(crate) struct Search {
 pub(crate) fn of_check() -> Search {
     Search {
         is_lint: false,
+        finds_all: false,
         trailing_commas: false,
         is_json: true,
+    }
+}
+
+/// The search of `check --all`.
+pub(crate) fn of_all(format: Format) -> Search {
+    Search {
+        is_lint: false,
+        finds_all: true,
+        trailing_commas: false,
+        is_json: matches!(format, Format::Json),
     }
 }
 
@@ -28,6 +44,7 @@ pub(crate) fn of_check() -> Search {
 pub(crate) fn of_lint(format: Format, no_trailing_commas: bool) -> Search {
     Search {
         is_lint: true,
+        finds_all: false,
         trailing_commas: no_trailing_commas,
         is_json: matches!(format, Format::Json),
     }
@@ -55,27 +72,21 @@ fn found_in(
 ) -> Result<Findings<Global>, AllocError> {
     if search.is_lint {
         let trailing_commas = search.trailing_commas;
-        lint(rt.alloc(), text, options, Rules { trailing_commas })
+        lint_all(rt, text, options, Rules { trailing_commas })
     } else {
         faults(rt, options, text)
     }
 }
 
-/// The line of a finding.
-fn line_of(
+/// The line of a finding, without its end.
+pub(crate) fn finding_line(
     rt: &HostRuntime,
     input: Input<'_>,
     finding: &Finding<Global>,
 ) -> Result<String, AllocError> {
     match input {
-        Input::File(name) => {
-            let line = finding.file_line(rt.alloc(), name)?;
-            format!(in rt.alloc(); "{line}\n")
-        }
-        Input::Standard => {
-            let line = finding.input_line(rt.alloc())?;
-            format!(in rt.alloc(); "jsonc: {line}\n")
-        }
+        Input::File(name) => finding.file_line(rt.alloc(), name),
+        Input::Standard => format!(in rt.alloc(); "{}:{}: {finding}", finding.line, finding.column),
     }
 }
 
@@ -87,8 +98,9 @@ fn lines_of(
 ) -> Result<String, AllocError> {
     let mut lines = String::new(rt.alloc());
     for finding in found {
-        let line = line_of(rt, input, finding)?;
+        let line = finding_line(rt, input, finding)?;
         lines.push_str(line.as_str())?;
+        lines.push_str("\n")?;
     }
     Ok(lines)
 }
@@ -111,6 +123,29 @@ fn push_objects(
     Ok(())
 }
 
+/// Finds all faults of one text, writes them or adds them to the objects, and answers the status.
+fn find_faults(
+    rt: &HostRuntime,
+    options: &ParseOptions,
+    search: Search,
+    input: Input<'_>,
+    text: &str,
+    objects: &mut Vec<String>,
+) -> Result<u8, AllocError> {
+    let mends = mend(rt.alloc(), text, options)?;
+    if mends.list().is_empty() {
+        return Ok(0);
+    }
+    if search.is_json {
+        push_mends(rt, input, &mends, objects)?;
+        return Ok(REFUSED);
+    }
+    let found = mend_findings(rt, mends.list())?;
+    let lines = lines_of(rt, input, &found)?;
+    let status = write_out(rt, &[], lines.as_str().as_bytes());
+    Ok(status.max(REFUSED))
+}
+
 /// Finds what is in one text, writes it or adds it to the objects, and answers the status.
 fn find_in(
     rt: &HostRuntime,
@@ -120,6 +155,9 @@ fn find_in(
     text: &str,
     objects: &mut Vec<String>,
 ) -> Result<u8, AllocError> {
+    if search.finds_all {
+        return find_faults(rt, options, search, input, text, objects);
+    }
     let found = found_in(rt, options, search, text)?;
     if found.is_empty() {
         return Ok(0);

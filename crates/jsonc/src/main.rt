@@ -2,9 +2,14 @@
 #![tactic(auto)]
 
 mod findings;
+mod in_place;
 mod inputs;
+mod layouts;
+mod mends;
+mod moved;
 mod runs;
 mod telling;
+mod work;
 
 use crate::runs::run_call;
 use jsonc_words::arguments::{ArgumentsFault, arguments};

@@ -21,6 +21,11 @@ fn tell(rt: &HostRuntime, line: Result<String, AllocError>) {
     };
 }
 
+/// Tells what is found in an input.
+pub(crate) fn tell_finding(rt: &HostRuntime, line: Result<String, AllocError>) {
+    tell(rt, line);
+}
+
 /// What stands before the cause: the file's name as it is shown, or the program's.
 fn front(rt: &HostRuntime, input: Input<'_>) -> Result<String, AllocError> {
     match input {

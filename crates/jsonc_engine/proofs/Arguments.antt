@@ -1,4 +1,4 @@
--- The value of a command's JSON text may be written into any document that allows all.
+-- What the words of a command say, and what it asks for.
 use Rattle.std.proofs.Common.{◌≡◌, List, ℕ, chars, Option, Some, None, IfSome, option_map, refl, sym, ap, subst, ◌∙◌}
 use Rattle.std.specs.Borrow.{Bor}
 use Rattle.std.specs.declared.string.String.{String}
@@ -16,9 +16,9 @@ use Rattle.jsonc_parser.specs.patch.Pointer.{tokens_of}
 use Rattle.jsonc_parser.specs.declared.patch.pointer.Pointer.{Pointer}
 use Rattle.jsonc_parser.specs.declared.patch.reading.Patch.{Patch}
 use Rattle.jsonc_engine.specs.declared.task.Change.{Change}
-use Rattle.jsonc_engine.specs.declared.task.Change.TheVariants.{Append, Drop, Remove, Set, Sort, Stay}
+use Rattle.jsonc_engine.specs.declared.task.Change.TheVariants.{Append, Drop, Remove, Set, Sort}
 use Rattle.jsonc_engine.specs.declared.task.Task.{Task}
-use Rattle.jsonc_engine.specs.declared.task.Task.TheVariants.{Json, OnDocument}
+use Rattle.jsonc_engine.specs.declared.task.Task.TheVariants.{Json, OnDocument, Stay}
 use Rattle.jsonc_engine.specs.declared.task.Work.{Work}
 use Rattle.jsonc_engine.specs.declared.task.Work.TheVariants.{Apply, Find, Get, Make, Merge}
 use Rattle.jsonc_engine.specs.declared.command.Place.{Place}
@@ -27,33 +27,33 @@ use Rattle.jsonc_engine.specs.declared.command.Place.TheVariants.{Names}
 use Rattle.jsonc_engine.specs.declared.command.Command.{Command}
 use Rattle.jsonc_engine.specs.declared.command.Command.TheVariants as command
 use Rattle.jsonc_engine.specs.declared.fault.Fault.{Fault}
-use Rattle.jsonc_engine.specs.Argument.{IsArgument, IsFaultOfArgument, of_json, of_path, of_text, IsFaultOfJson, IsFaultOfPath, IsFaultOfText, IsPath}
-use Rattle.jsonc_engine.specs.Change.{IsChangeFor, for_check, for_print, for_set, for_append, for_remove, for_sort, for_drop, IsTaskFor, for_json, for_work, IsWorkFor, for_change, for_get, for_find, for_patch, for_merge}
+use Rattle.jsonc_engine.specs.Argument.{IsArgument, IsFaultOfArgument, of_json, of_path, of_text, IsFaultOfJson, IsFaultOfPath, IsFaultOfText, IsPath, IsValueOf}
+use Rattle.jsonc_engine.specs.Change.{IsChangeFor, for_set, for_append, for_remove, for_sort, for_drop, IsTaskFor, for_check, for_print, for_json, for_work, IsWorkFor, for_change, for_get, for_find, for_patch, for_merge}
 use Rattle.jsonc_engine.specs.Command.{find, patch, put, request_of, value_at}
 use Rattle.jsonc_engine.specs.Finding.{IsPointer}
 use Rattle.jsonc_engine.specs.Patched.{IsMergePatchOf, IsPatchOf}
 
 -- what was read of a JSON text tells of its value
-module _ {A : Type 0} (json : List ℕ) (o : Options) (all : o ≡ all_on) (found : Option (CstInputValue A)) (read : IsValueOfText o json (option_map plain found)) where
-  pub argument_is : (v : CstInputValue A) → found ≡ Some v → IfSome found (λ w. IsWritable o (plain w)) → IsArgument json (plain v)
+module _ {A : Type 0} (json : List ℕ) (o : Options) (found : Option (CstInputValue A)) (read : IsValueOfText o json (option_map plain found)) where
+  pub argument_is : (v : CstInputValue A) → found ≡ Some v → IfSome found (λ w. IsWritable o (plain w)) → IsValueOf o json (plain v)
   argument_is v is writable = go read.value read.document (ap (option_map plain) (sym is) ∙ read.collapsed)
     where
-      go : (w : Option Plain) → IsDocument o (chars json) w → option_map plain (Some v) ≡ option_map collapse w → IsArgument json (plain v)
+      go : (w : Option Plain) → IsDocument o (chars json) w → option_map plain (Some v) ≡ option_map collapse w → IsValueOf o json (plain v)
       go None d e = cc
       go (Some x) d e =
           let same : plain v ≡ collapse x = cc in
           record {
             value = x;
-            document = subst (λ (p : Options). IsDocument p (chars json) (Some x)) all d;
+            document = d;
             collapsed = same;
-            writable = subst (λ (p : Options). IsWritable p (plain v)) all (subst (λ (f : Option (CstInputValue A)). IfSome f (λ w. IsWritable o (plain w))) is writable);
+            writable = subst (λ (f : Option (CstInputValue A)). IfSome f (λ w. IsWritable o (plain w))) is writable;
           }
 
-  pub no_argument : found ≡ None → IsDocument all_on (chars json) None
+  pub no_argument : found ≡ None → IsDocument o (chars json) None
   no_argument is = go read.value read.document (ap (option_map plain) (sym is) ∙ read.collapsed)
     where
-      go : (w : Option Plain) → IsDocument o (chars json) w → None ≡ option_map collapse w → IsDocument all_on (chars json) None
-      go None d e = subst (λ (p : Options). IsDocument p (chars json) None) all d
+      go : (w : Option Plain) → IsDocument o (chars json) w → None ≡ option_map collapse w → IsDocument o (chars json) None
+      go None d e = d
       go (Some x) d e = cc
 
 -- what a command asks for
@@ -64,11 +64,11 @@ module _ {A : Type 0} (o : Options) (c : Command) where
   change_task : (change : Change A) → IsChangeFor (request_of c) change → IsTask (OnDocument (Make change))
   change_task change h = for_work (request_of c) (Make change) (for_change (request_of c) change h)
 
-  pub check_task : c ≡ command.Check → IsTask (OnDocument (Make Stay))
-  check_task is = change_task Stay (subst (λ (x : Command). IsChangeFor {A = A} (request_of x) Stay) (sym is) for_check)
+  pub check_task : c ≡ command.Check → IsTask Stay
+  check_task is = subst (λ (x : Command). IsTaskFor {A = A} o (request_of x) Stay) (sym is) for_check
 
-  pub print_task : c ≡ command.Print → IsTask (OnDocument (Make Stay))
-  print_task is = change_task Stay (subst (λ (x : Command). IsChangeFor {A = A} (request_of x) Stay) (sym is) for_print)
+  pub print_task : c ≡ command.Print → IsTask Stay
+  print_task is = subst (λ (x : Command). IsTaskFor {A = A} o (request_of x) Stay) (sym is) for_print
 
   pub set_task : (name json : Bor (List ℕ)) (value : CstInputValue A) → c ≡ command.Set name json → IsArgument json.now (plain value) → IsTask (OnDocument (Make (Set name value)))
   set_task name json value is h = change_task (Set name value) (subst (λ (x : Command). IsChangeFor (request_of x) (Set name value)) (sym is) (for_set name json.now value h))
@@ -104,10 +104,10 @@ module _ {A : Type 0} (o : Options) (c : Command) where
 
 -- and what its words are refused for
 module _ {A : Type 0} (o : Options) (c : Command) (f : Fault A) where
-  pub set_fault : (name json : Bor (List ℕ)) → c ≡ command.Set name json → IsFaultOfJson json.now f → IsFaultOfArgument o (request_of c) f
+  pub set_fault : (name json : Bor (List ℕ)) → c ≡ command.Set name json → IsFaultOfJson all_on json.now f → IsFaultOfArgument o (request_of c) f
   set_fault name json is h = subst (λ (x : Command). IsFaultOfArgument o (request_of x) f) (sym is) (of_json json.now (λ path e. cc) refl h)
 
-  pub append_fault : (json : Bor (List ℕ)) → c ≡ command.Append json → IsFaultOfJson json.now f → IsFaultOfArgument o (request_of c) f
+  pub append_fault : (json : Bor (List ℕ)) → c ≡ command.Append json → IsFaultOfJson all_on json.now f → IsFaultOfArgument o (request_of c) f
   append_fault json is h = subst (λ (x : Command). IsFaultOfArgument o (request_of x) f) (sym is) (of_json json.now (λ path e. cc) refl h)
 
   pub drop_fault : (path : Bor (List ℕ)) → c ≡ command.Drop path → IsFaultOfPath path.now f → IsFaultOfArgument o (request_of c) f
@@ -135,5 +135,5 @@ module _ {A : Type 0} (o : Options) (path json : List ℕ) where
   pub path_refused : (f : Fault A) → IsFaultOfPath path f → IsFaultOfArgument o (put path json) f
   path_refused f h = of_path path refl h
 
-  pub json_refused : (names : List (List ℕ)) (f : Fault A) → IsPath path names → IsFaultOfJson json f → IsFaultOfArgument o (put path json) f
+  pub json_refused : (names : List (List ℕ)) (f : Fault A) → IsPath path names → IsFaultOfJson all_on json f → IsFaultOfArgument o (put path json) f
   json_refused names f is h = of_json json (λ p e. (names, let same : path ≡ p = cc in subst (λ (b : List ℕ). IsPath b names) same is)) refl h

@@ -17,25 +17,26 @@ use Rattle.jsonc_engine.specs.Parser.{LiesIn}
 use Rattle.jsonc_text.specs.declared.edit.EditError.TheVariants.{NestingDepthExceeded, OutOfMemory}
 use Rattle.jsonc_parser.specs.paths.Found.{names_of}
 use Rattle.jsonc_engine.specs.declared.task.Change.{Change}
-use Rattle.jsonc_engine.specs.declared.task.Change.TheVariants.{Append, Drop, Put, Remove, Set, Sort, Stay}
+use Rattle.jsonc_engine.specs.declared.task.Change.TheVariants.{Append, Drop, Put, Remove, Set, Sort}
 use Rattle.jsonc_engine.specs.declared.fault.Fault.{Fault}
+use Rattle.jsonc_engine.specs.declared.output.Made.{Made}
 use Rattle.jsonc_engine.specs.declared.output.Output.{Output}
 use Rattle.jsonc_engine.specs.declared.fault.Fault.TheVariants.{Edit, NoSetting, NotArray, NotObject, OnTheWay}
 use Rattle.jsonc_engine.specs.Appending.{AppendsIfSound}
-use Rattle.jsonc_engine.specs.Change.{HasNumbersOf, IsChangeFor, for_check, for_print, for_set, for_append, for_remove, for_sort, for_put, for_drop, IsTaskFor, for_json, for_work, IsWorkFor, for_change, for_get, for_find, for_patch, for_merge, MakesIfSound}
+use Rattle.jsonc_engine.specs.Change.{HasNumbersOf, IsChangeFor, for_set, for_append, for_remove, for_sort, for_put, for_drop, IsTaskFor, for_check, for_print, for_json, for_work, IsWorkFor, for_change, for_get, for_find, for_patch, for_merge, MakesIfSound}
 use Rattle.jsonc_parser.specs.patch.Patches.{operations_in}
 use Rattle.jsonc_parser.specs.patch.Pointer.{tokens_of}
 use Rattle.jsonc_parser.specs.declared.patch.pointer.Pointer.{Pointer}
 use Rattle.jsonc_parser.specs.declared.patch.reading.Patch.{Patch}
 use Rattle.jsonc_engine.specs.Finding.{IsPointer}
 use Rattle.jsonc_engine.specs.Patched.{IsMergePatchOf, IsPatchOf}
-use Rattle.jsonc_engine.specs.declared.task.Task.TheVariants.{Json, OnDocument}
+use Rattle.jsonc_engine.specs.declared.task.Task.TheVariants.{Json, OnDocument, Stay}
 use Rattle.jsonc_engine.specs.declared.task.Work.{Work}
 use Rattle.jsonc_engine.specs.declared.task.Work.TheVariants.{Apply, Find, Get, Make, Merge}
 use Rattle.jsonc_engine.specs.Command.{Request, append, as_json, check, drop, find, get, merge, patch, print, put, remove, set, sort}
 use Rattle.jsonc_engine.specs.Fault.{EndsAppending, EndsDropping, EndsGetting, EndsOnObject, EndsPutting, EndsSetting, IsFaultOn}
 use Rattle.jsonc_engine.specs.Input.{IsInputOf}
-use Rattle.jsonc_engine.specs.Output.{IsLeft, output_bytes}
+use Rattle.jsonc_engine.specs.Output.{IsLeft, made_bytes, output_bytes}
 use Rattle.jsonc_engine.specs.Removal.{LosesIfSound}
 use Rattle.jsonc_engine.specs.Setting.{SetsIfSound}
 use Rattle.jsonc_engine.specs.Settings.{DropsIfSound, PutsIfSound, ShownIfSound}
@@ -81,11 +82,6 @@ module _ {A : Type 0} (o : Options) where
 
   pub sort_makes : (request : Request) (old new : List Node) → IsChangeFor {A = A} request Sort → SortsIfSound o old new → MakesIfSound o request old new
   sort_makes _ old new for_sort sorts = λ sound. sorts sound
-
-  -- what is only read stays
-  pub stay_makes : (request : Request) (ns : List Node) → IsChangeFor {A = A} request Stay → MakesIfSound o request ns ns
-  stay_makes _ ns for_check = λ sound. refl
-  stay_makes _ ns for_print = λ sound. refl
 
   put_so : (request : Request) (old new : List Node) (names : Vec (String A) A) (value : CstInputValue A) → IsChangeFor request (Put names value)
       → PutsIfSound o (plain value) (names_of names.items) old new → MakesIfSound o request old new
@@ -199,6 +195,12 @@ module _ {A : Type 0} (o : Options) where
 
 -- so the document of the input is left
 module _ {A : Type 0} (o : Options) (change : Change A) where
+  no_check : (x : Change A) → IsChangeFor check x → ⊥
+  no_check _ h = elim h [ ]
+
+  no_print : (x : Change A) → IsChangeFor print x → ⊥
+  no_print _ h = elim h [ ]
+
   no_get : (path : List ℕ) (x : Change A) → IsChangeFor (get path) x → ⊥
   no_get _ _ h = elim h [ ]
 
@@ -216,8 +218,8 @@ module _ {A : Type 0} (o : Options) (change : Change A) where
 
   pub left_by : (request : Request) (input : List ℕ) (old new : List Node) → IsChangeFor request change → printed (ordered_tree old 0) ≡ input → SoundTree o (ordered_tree old 0) → LiesIn o input (ordered_tree old 0)
       → (HasNumbersOf o request → IsInputOf o (printed (ordered_tree new 0))) → MakesIfSound o request old new → IsLeft A o request input (printed (ordered_tree new 0))
-  left_by check input old new is reads sound laid accepted makes = ap (λ (ns : List Node). printed (ordered_tree ns 0)) (makes sound) ∙ reads
-  left_by print input old new is reads sound laid accepted makes = ap (λ (ns : List Node). printed (ordered_tree ns 0)) (makes sound) ∙ reads
+  left_by check input old new is reads sound laid accepted makes = absurd (no_check change is)
+  left_by print input old new is reads sound laid accepted makes = absurd (no_print change is)
   left_by (get path) input old new is reads sound laid accepted makes = absurd (no_get path change is)
   left_by (find pointer) input old new is reads sound laid accepted makes = absurd (no_find pointer change is)
   left_by (patch text most) input old new is reads sound laid accepted makes = absurd (no_patch text most change is)
@@ -250,6 +252,16 @@ module _ {A : Type 0} (o : Options) where
 
   pub json_so : (P : Request → Type 0) (request : Request) → IsTaskFor {A = A} o request Json → P as_json → P request
   json_so P _ for_json h = h
+
+  -- a text that stays is what is left
+  stays_so : (request : Request) (input bytes : List ℕ) → IsTaskFor {A = A} o request Stay → bytes ≡ input → IsLeft A o request input bytes
+  stays_so _ input bytes for_check same = same
+  stays_so _ input bytes for_print same = same
+
+  pub stays_left : (request : Request) (input : List ℕ) (r : Result (Made A) (Fault A)) → IsTaskFor {A = A} o request Stay → IfOk r (λ made. made_bytes made ≡ input)
+      → IfOk r (λ made. IsLeft A o request input (made_bytes made))
+  stays_left request input (Ok made) is same = stays_so request input (made_bytes made) is same
+  stays_left request input (Err fault) is same = tt
 
 -- what was read is the input, where that is known
 pub of_input : (known : Option (List ℕ)) (read : List ℕ) (P : List ℕ → Type 0) → IfSome known (λ input. read ≡ input) → P read → IfSome known P

@@ -7,7 +7,7 @@ use Rattle.jsonc_text.specs.declared.edit.EditError.TheVariants.{NestingDepthExc
 use Rattle.jsonc_engine.specs.declared.fault.Fault.{Fault}
 use Rattle.jsonc_engine.specs.declared.fault.Fault.TheVariants.{Argument, Edit, Input, MergePatch, NoValue, NotNames, NotUtf8, Patch, Path, Pointer, Read, Usage, Write}
 use Rattle.jsonc_engine.specs.Parser.{ParseError}
-use Rattle.jsonc_engine.specs.Command.{Request, check}
+use Rattle.jsonc_engine.specs.Command.{Request}
 use Rattle.jsonc_engine.specs.Fault.{EndsRun, EndsUnread, IsFaultOn, IsForMemory, TellsOfInput}
 use Rattle.jsonc_engine.specs.Input.{IsInput, IsInputOf}
 use Rattle.jsonc_engine.specs.Output.{IsAccepted, IsLeft, Puts}
@@ -55,27 +55,6 @@ err_always (Err fault) h = h fault
 pub ok_always : {A T P : Type 0} (r : Result T (Fault A)) → P → OnOk r P
 ok_always (Ok x) h = h
 ok_always (Err e) h = tt
-
--- what is true of all faults that are true of something
-pub err_each : {A T : Type 0} {P Q : Fault A → Type 0} (r : Result T (Fault A)) → ((fault : Fault A) → P fault → Q fault) → IfErr r P → IfErr r Q
-err_each (Ok x) f h = tt
-err_each (Err fault) f h = f fault h
-
--- an input that is only checked has two faults: of its text, or that it is none
-pub of_check : {A : Type 0} (P : Fault A → Type 0) (o : Options) (input : List ℕ) → ((e : ParseError) → P (Input e)) → P NotUtf8 → (fault : Fault A) → IsFaultOn o check input fault → P fault
-of_check P o input of_text no_text (Input e) h = of_text e
-of_check P o input of_text no_text NotUtf8 h = no_text
-of_check P o input of_text no_text (Edit OutOfMemory) h = absurd h
-of_check P o input of_text no_text (Edit NestingDepthExceeded) h = absurd h
-of_check P o input of_text no_text _ h = absurd h
-
--- and no other
-pub never_checked : {A T P : Type 0} (o : Options) (input : List ℕ) (x : Fault A) → ((e : ParseError) → Input e ≡ x → ⊥) → (NotUtf8 ≡ x → ⊥) → (r : Result T (Fault A)) → IfErr r (IsFaultOn o check input)
-    → IsErrOf r x → P
-never_checked o input x of_text no_text (Ok y) h e = cc
-never_checked o input x of_text no_text (Err fault) h e =
-    let is : fault ≡ x = cc in
-    absurd (of_check (λ f. f ≡ x → ⊥) o input of_text no_text fault h is)
 
 -- what is told of the input
 module _ {A : Type 0} (o : Options) (request : Request) (input : List ℕ) where

@@ -11,7 +11,7 @@ use Rattle.jsonc_engine.specs.declared.task.Change.{Change}
 use Rattle.jsonc_engine.specs.declared.fault.Fault.{Fault}
 use Rattle.jsonc_engine.specs.declared.fault.Fault.TheVariants.{Argument, Edit, Input, MergePatch, NoRoot, NoSetting, NoSuchValue, NoValue, NonFinite, NotArray, NotNames, NotObject, NotUtf8, OnTheWay, Operation, Patch, Path, Pointer, Read, RepeatedName, TooLarge, Usage, Write}
 use Rattle.jsonc_engine.specs.Argument.{IsArgument, IsFaultOfArgument, of_json, of_path, of_text, IsFaultOfJson, IsFaultOfPath, IsFaultOfText, IsPath, IsReady}
-use Rattle.jsonc_engine.specs.Change.{IsChangeFor, for_check, for_print, for_set, for_append, for_remove, for_sort, for_put, for_drop, IsTaskFor, for_json, for_work, IsWorkFor, for_change, for_get, for_find, for_patch, for_merge}
+use Rattle.jsonc_engine.specs.Change.{IsChangeFor, for_set, for_append, for_remove, for_sort, for_put, for_drop, IsTaskFor, for_check, for_print, for_json, for_work, IsWorkFor, for_change, for_get, for_find, for_patch, for_merge}
 use Rattle.jsonc_engine.specs.declared.task.Task.{Task}
 use Rattle.jsonc_engine.specs.declared.task.Work.{Work}
 use Rattle.jsonc_engine.specs.Command.{Request, append, as_json, check, drop, find, get, merge, patch, print, put, remove, set, sort}
@@ -21,8 +21,6 @@ use Rattle.jsonc_engine.specs.Output.{IsLeft}
 
 -- where a command's task is known its path and JSON text are as they have to be
 of_change : {A : Type 0} (request : Request) (change : Change A) → IsChangeFor request change → IsReady request
-of_change _ _ for_check = (λ path e. cc, λ json e. cc)
-of_change _ _ for_print = (λ path e. cc, λ json e. cc)
 of_change _ _ (for_set name j value argument) =
     (λ path e. cc, λ json e. (plain value, let same : j ≡ json = cc in subst (λ (b : List ℕ). IsArgument b (plain value)) same argument))
 of_change _ _ (for_append j value argument) =
@@ -45,13 +43,13 @@ of_work o _ _ (for_patch text most read is) = (λ path e. cc, λ json e. cc)
 of_work o _ _ (for_merge text value is) = (λ path e. cc, λ json e. cc)
 
 pub is_ready : {A : Type 0} (o : Options) (request : Request) (task : Task A) → IsTaskFor o request task → IsReady request
+is_ready o _ _ for_check = (λ path e. cc, λ json e. cc)
+is_ready o _ _ for_print = (λ path e. cc, λ json e. cc)
 is_ready o _ _ for_json = (λ path e. cc, λ json e. cc)
 is_ready o _ _ (for_work request work is) = of_work o request work is
 
 -- no document is made of an input that `json` reads
 pub told_of_parse : {A : Type 0} (o : Options) (request : Request) (work : Work A) → IsWorkFor o request work → (error : ParseError) → IsToldFreely request error
-told_of_parse o _ _ (for_change _ _ for_check) error = tt
-told_of_parse o _ _ (for_change _ _ for_print) error = tt
 told_of_parse o _ _ (for_change _ _ (for_set name j value argument)) error = tt
 told_of_parse o _ _ (for_change _ _ (for_append j value argument)) error = tt
 told_of_parse o _ _ (for_change _ _ (for_remove name)) error = tt
@@ -133,7 +131,7 @@ module _ {A : Type 0} where
   path_words path (Edit OutOfMemory) h = tt
   path_words path _ h = absurd h
 
-  json_words : (json : List ℕ) (fault : Fault A) → IsFaultOfJson json fault → IsOfWords fault
+  json_words : (json : List ℕ) (fault : Fault A) → IsFaultOfJson all_on json fault → IsOfWords fault
   json_words json (Argument e) h = tt
   json_words json NoValue h = tt
   json_words json _ h = absurd h

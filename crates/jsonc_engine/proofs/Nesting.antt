@@ -232,8 +232,8 @@ module _ (o : Options) (old new : List Node) where
           record { e = document_of o (ordered_tree old 0) t.0; shown = shown; options = refl; within = small t.0 t.1 }
 
       left_so : (request : Request) → HasNumbersOf o request → Makes o request old new → IsShown o new
-      left_so check numbers same = subst (IsShown o) (sym same) before_it
-      left_so print numbers same = subst (IsShown o) (sym same) before_it
+      left_so check numbers h = absurd h
+      left_so print numbers h = absurd h
       left_so (set name json) numbers (v, argument, h) = sets before_it (chars name) v (numbers json refl v argument) h
       left_so (append json) numbers (v, argument, h) = appends before_it v (numbers json refl v argument) h
       left_so (remove_it name) numbers h = loses before_it tree (chars name) h

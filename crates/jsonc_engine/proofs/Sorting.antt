@@ -1,4 +1,4 @@
--- The properties of a document's object in the order of their names.
+-- The properties of an object in the order of their names.
 use Rattle.std.proofs.Common.{◌≡◌, ◌∙◌, ℕ, ◌+◌, ◌<◌, Bool, false, not, ◌&&◌, List, [], ◌∷◌, All, filter, get_or, length, map, Option, Some, None, inl, inr, refl, sym, ap, subst, arith}
 use Rattle.std.proofs.lemmas.Bool.{cases_Bool, false≢true}
 use Rattle.std.proofs.lemmas.Cmp.{nat_list_cmp_total}
@@ -36,23 +36,21 @@ use Rattle.jsonc_edit.proofs.FittingNodes.{over_there}
 use Rattle.jsonc_edit.proofs.NodesKept.{filter_same}
 use Rattle.jsonc_edit.proofs.ChangesUpward.{Shows-row_below}
 use Rattle.jsonc_edit.proofs.lemmas.remove.Containers.{held_at}
-use Rattle.jsonc_run.specs.Edits.{rearrange}
-use Rattle.jsonc_run.specs.promise.Steps.{IsStep}
 use Rattle.jsonc_run.proofs.Roots.{value_stands}
 use Rattle.jsonc_sort.specs.ordering.Asking.{ComparesBy}
 use Rattle.jsonc_sort.specs.ordering.Order.{IsOrderedBy, comes_before, node_in, option_before}
-use Rattle.jsonc_sort.specs.Rearranged.{Rearranged, headers_of}
+use Rattle.jsonc_sort.specs.Rearranged.{headers_of}
 use Rattle.jsonc_cst.specs.declared.cst.CstRootNode.{CstRootNode}
 use Rattle.jsonc_cst.specs.declared.cst.node.CstNode.{CstNode}
 use Rattle.jsonc_cst.specs.declared.cst.node.CstObject.{CstObject}
 use Rattle.jsonc_cst.specs.declared.cst.node.CstObjectProp.{CstObjectProp}
 use Rattle.jsonc_cst.specs.Document.{nodes_of, HasNode}
-use Rattle.jsonc_cst.specs.Nodes.{object_prop_node, typed, typed_at}
+use Rattle.jsonc_cst.specs.Nodes.{number_of, object_prop_node, typed, typed_at}
 use Rattle.jsonc_cst.specs.Readings.{object_if, property_under, typed_if}
 use Rattle.jsonc_cst.specs.sorting.Asking.{IsInItsOrder}
 use Rattle.jsonc_cst.specs.sorting.Rows.{property_if}
-use Rattle.jsonc_cst.specs.sorting.Sorted.{PropertiesSorted}
-use Rattle.jsonc_engine.specs.Sorting.{IsByName, SortsIfSound, has_less_name, is_less, numbers_in, written_name}
+use Rattle.jsonc_cst.specs.sorting.Sorted.{IsPlaced, PropertiesSorted}
+use Rattle.jsonc_engine.specs.Sorting.{IsByName, IsSorted, SortsIfSound, has_less_name, is_less, numbers_in, pins_at, written_name}
 use Rattle.jsonc_engine.proofs.Removing.{object_read}
 
 -- each element of the row is a property
@@ -97,13 +95,13 @@ module _ (ns : List Node) where
             ap asked same ∙ later ∙ sym (ap named same)
       ]
 
-module _ (o : Options) (ns : List Node) (tree : IsTree ns) (sound : SoundTree o (ordered_tree ns 0)) (c : ℕ) (at : IsAt ns [] c) (is : content_at ns c ≡ object) where
+module _ (o : Options) (ns : List Node) (tree : IsTree ns) (sound : SoundTree o (ordered_tree ns 0)) (path : List ℕ) (c : ℕ) (at : IsAt ns path c) (is : content_at ns c ≡ object) where
   there : c < length ns
-  there = over_there ns tree c (over_at ns tree [] c at)
+  there = over_there ns tree c (over_at ns tree path c at)
 
   properties_below : AreProperties (row_below ns c)
   properties_below =
-      let h : Held o (content_at ns c) (row_below ns c) = held_at o ns tree sound [] c at (ap is_array_or_object is) in
+      let h : Held o (content_at ns c) (row_below ns c) = held_at o ns tree sound path c at (ap is_array_or_object is) in
       subst AreProperties (sym h.under) (λ e. absurd (false≢true e), row_of_object o h.kind (content_at ns c) h.is is h.alone)
 
   object_asked : asked ns (elements_at ns c) ≡ named ns (elements_at ns c)
@@ -162,33 +160,43 @@ module _ {A F : Type 0} (g : Shared F (Bor (CstRootNode A) × (CstObjectProp × 
     order = ranks_by nat_list_cmp_total (λ (p : CstObjectProp). written_name (nodes_of old) p.number);
   }
 
-  -- no comment is pinned
-  abbrev NonePinned : CstNode → List (Option CstObjectProp) → List (Option ℕ) → Type 0
-  NonePinned n xs pins = pins ≡ []
+  -- so many comments are pinned as are kept
+  abbrev Sorted : (pinned : CstNode → List (Option CstObjectProp) → List (Option ℕ) → Type 0) → CstObject → Bool → Type 0
+  Sorted pinned y groups = PropertiesSorted old new y pinned groups (IsInItsOrder g compare old HeldIn)
 
-  abbrev Sorted : CstObject → Bool → Type 0
-  Sorted y groups = PropertiesSorted old new y NonePinned groups (IsInItsOrder g compare old HeldIn)
-
-  sorted_so : (o : Options) → IsTree (nodes_of old) → object_if (typed_if (nodes_of old) (value_at (nodes_of old) 0)) ≡ Some x → ComparesNames → Sorted x false → SortsIfSound o (nodes_of old) (nodes_of new)
-  sorted_so o tree read told (pins, unpinned, sorted) = λ sound.
+  sorted_so : (keeps : Bool) → IsTree (nodes_of old) → ComparesNames → Sorted (λ n xs pins. pins ≡ pins_at keeps (nodes_of old) (number_of n)) x false → IsSorted keeps old new x
+  sorted_so keeps tree told (pins, pinned, sorted) =
       let ns = nodes_of old in
-      let is : (value_at ns 0 ≡ Some x.number) × (content_at ns x.number ≡ object) = object_read ns (value_at ns 0) x read in
-      let at : IsAt ns [] x.number = value_stands ns tree x.number is.0 in
       let row : List ℕ = elements_at ns x.number in
-      let ordered : IsOrderedBy (before ns x.number) (length (named ns row)) sorted.order =
-      subst (λ (l : List (Option CstObjectProp)). IsOrderedBy (comes_before (less ns) l []) (length l) sorted.order) (object_asked o ns tree sound x.number at is.1) (sorted.required (less ns) (compares told)) in
       record {
-        c = x.number;
-        value = is.0;
-        is_object = is.1;
         order = sorted.order;
-        by_name = by_name ns x.number sorted.order (subst (λ (n : ℕ). IsOrderedBy (before ns x.number) n sorted.order) (length-map row (λ (n : ℕ). Some (property_under n))) ordered);
-        moved = subst (λ (ps : List (Option ℕ)). Rearranged ns (nodes_of new) x.number (headers_of ps false) sorted.order) unpinned sorted.placed.made;
-        step = subst (λ (ps : List (Option ℕ)). IsStep IsAt (λ path. rearrange path (headers_of ps false) sorted.order) ns (nodes_of new) x.number) unpinned sorted.placed.step;
+        by_name = λ o path sound at is.
+            let ordered : IsOrderedBy (before ns x.number) (length (named ns row)) sorted.order =
+            subst (λ (l : List (Option CstObjectProp)). IsOrderedBy (comes_before (less ns) l []) (length l) sorted.order) (object_asked o ns tree sound path x.number at is) (sorted.required (less ns) (compares told)) in
+            by_name ns x.number sorted.order (subst (λ (n : ℕ). IsOrderedBy (before ns x.number) n sorted.order) (length-map row (λ (n : ℕ). Some (property_under n))) ordered);
+        placed = subst (λ (ps : List (Option ℕ)). IsPlaced ns (nodes_of new) x.number (headers_of ps false) sorted.order) pinned sorted.placed;
       }
 
   -- the object has been sorted by names
-  pub sorts_by_name : (o : Options) (y : CstObject) (groups : Bool) → IsTree (nodes_of old) → object_if (typed_if (nodes_of old) (value_at (nodes_of old) 0)) ≡ Some x → y ≡ x → groups ≡ false
-      → Sorted y groups → ComparesNames → SortsIfSound o (nodes_of old) (nodes_of new)
-  sorts_by_name o y groups tree read one off sorted told =
-      sorted_so o tree read told (subst (λ (b : Bool). Sorted x b) off (subst (λ (w : CstObject). Sorted w groups) one sorted))
+  pub sorts_by_name : (keeps : Bool) (y : CstObject) (groups : Bool) → IsTree (nodes_of old) → y ≡ x → groups ≡ false → Sorted (λ n xs pins. pins ≡ pins_at keeps (nodes_of old) (number_of n)) y groups → ComparesNames
+      → IsSorted keeps old new x
+  sorts_by_name keeps y groups tree one off sorted told =
+      let pinned : CstNode → List (Option CstObjectProp) → List (Option ℕ) → Type 0 = λ n xs pins. pins ≡ pins_at keeps (nodes_of old) (number_of n) in
+      sorted_so keeps tree told (subst (λ (b : Bool). Sorted pinned x b) off (subst (λ (w : CstObject). Sorted pinned w groups) one sorted))
+
+-- and so has the document's value, if that is it
+pub sorts_value : {A : Type 0} (o : Options) (old new : CstRootNode A) (x : CstObject) → IsTree (nodes_of old) → object_if (typed_if (nodes_of old) (value_at (nodes_of old) 0)) ≡ Some x → IsSorted false old new x
+    → SortsIfSound o (nodes_of old) (nodes_of new)
+sorts_value o old new x tree read sorted = λ sound.
+    let ns = nodes_of old in
+    let is : (value_at ns 0 ≡ Some x.number) × (content_at ns x.number ≡ object) = object_read ns (value_at ns 0) x read in
+    let at : IsAt ns [] x.number = value_stands ns tree x.number is.0 in
+    record {
+      c = x.number;
+      value = is.0;
+      is_object = is.1;
+      order = sorted.order;
+      by_name = sorted.by_name o [] sound at is.1;
+      moved = sorted.placed.made;
+      step = sorted.placed.step;
+    }

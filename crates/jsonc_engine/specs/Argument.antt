@@ -15,7 +15,7 @@ use Rattle.jsonc_parser.specs.declared.patch.pointer.PointerError.TheVariants as
 use Rattle.jsonc_parser.specs.declared.patch.reading.PatchError.{PatchError}
 use Rattle.jsonc_parser.specs.declared.patch.reading.PatchError.TheVariants as patch_error
 use Rattle.jsonc_engine.specs.Command.{Request, append, find, json_of, merge, patch, path_of, put, set}
-use Rattle.jsonc_engine.specs.Input.{IsRefusal}
+use Rattle.jsonc_engine.specs.Input.{IsRefusal, IsRefusalOf}
 use Rattle.jsonc_engine.specs.Parser.{IsWithin, OutOfMemory}
 use Rattle.jsonc_engine.specs.declared.fault.Fault.{Fault}
 use Rattle.jsonc_engine.specs.declared.fault.Fault.TheVariants.{Argument, Edit, MergePatch, NoValue, NotNames, Patch, Path, Pointer}
@@ -38,12 +38,16 @@ strings names = array (items_of (map string names))
 abbrev pub IsPath : List ℕ → List (List ℕ) → Type 0
 IsPath bytes names = IsDocument all_on (chars bytes) (Some (strings names))
 
--- the text of these bytes is a document, and v is its value, of equal names the last at the first place; documents that may hold all that options allow may hold v
-pub record IsArgument (json : List ℕ) (v : Plain) : Type 0 where
+-- the text of these bytes is a document of the options, and v is its value, of equal names the last at the first place; documents of the options may hold v
+pub record IsValueOf (o : Options) (json : List ℕ) (v : Plain) : Type 0 where
   pub value : Plain
-  pub document : IsDocument all_on (chars json) (Some value)
+  pub document : IsDocument o (chars json) (Some value)
   pub collapsed : v ≡ collapse value
-  pub writable : IsWritable all_on v
+  pub writable : IsWritable o v
+
+-- the JSON text of a command may hold all that options allow
+abbrev pub IsArgument : List ℕ → Plain → Type 0
+IsArgument = IsValueOf all_on
 
 -- as an element of the document's array v is nested no deeper than texts are parsed
 abbrev pub FitsInArray : Plain → Type 0
@@ -89,11 +93,11 @@ IsFaultOfPath path NotNames = (w : Option Plain) × IsDocument all_on (chars pat
 IsFaultOfPath path (Edit OutOfMemory) = (names : List (List ℕ)) × IsPath path names
 IsFaultOfPath path other = ⊥
 
--- the fault is true of the bytes of a JSON text, and reading its value can end with it
-abbrev pub IsFaultOfJson : {A : Type 0} → List ℕ → Fault A → Type 0
-IsFaultOfJson json (Argument error) = IsRefusal json error
-IsFaultOfJson json NoValue = IsDocument all_on (chars json) None
-IsFaultOfJson json other = ⊥
+-- the fault is true of the bytes of a JSON text under the options, and reading its value can end with it
+abbrev pub IsFaultOfJson : {A : Type 0} → Options → List ℕ → Fault A → Type 0
+IsFaultOfJson o json (Argument error) = IsRefusalOf o json error
+IsFaultOfJson o json NoValue = IsDocument o (chars json) None
+IsFaultOfJson o json other = ⊥
 
 -- it is not for memory that the text of a patch was not read
 abbrev pub IsOfText : {A : Type 0} → PatchError A → Type 0
@@ -112,5 +116,5 @@ IsFaultOfText o request other = ⊥
 -- the fault is true of the path that the command has; or of its JSON text, which is not read before the path is known to be a list of names; or of its pointer or patch
 pub data IsFaultOfArgument {A : Type 0} (o : Options) (request : Request) (fault : Fault A) : Type 0 where
   of_path : (path : List ℕ) → path_of request ≡ Some path → IsFaultOfPath path fault → IsFaultOfArgument o request fault
-  of_json : (json : List ℕ) → HasNames request → json_of request ≡ Some json → IsFaultOfJson json fault → IsFaultOfArgument o request fault
+  of_json : (json : List ℕ) → HasNames request → json_of request ≡ Some json → IsFaultOfJson all_on json fault → IsFaultOfArgument o request fault
   of_text : IsFaultOfText o request fault → IsFaultOfArgument o request fault

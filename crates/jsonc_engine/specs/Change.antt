@@ -16,11 +16,11 @@ use Rattle.jsonc_parser.specs.paths.Found.{names_of}
 use Rattle.jsonc_parser.specs.declared.patch.pointer.Pointer.{Pointer}
 use Rattle.jsonc_parser.specs.declared.patch.reading.Patch.{Patch}
 use Rattle.jsonc_engine.specs.declared.task.Task.{Task}
-use Rattle.jsonc_engine.specs.declared.task.Task.TheVariants.{Json, OnDocument}
+use Rattle.jsonc_engine.specs.declared.task.Task.TheVariants.{Json, OnDocument, Stay}
 use Rattle.jsonc_engine.specs.declared.task.Work.{Work}
 use Rattle.jsonc_engine.specs.declared.task.Work.TheVariants.{Apply, Find, Get, Make, Merge}
 use Rattle.jsonc_engine.specs.declared.task.Change.{Change}
-use Rattle.jsonc_engine.specs.declared.task.Change.TheVariants.{Append, Drop, Put, Remove, Set, Sort, Stay}
+use Rattle.jsonc_engine.specs.declared.task.Change.TheVariants.{Append, Drop, Put, Remove, Set, Sort}
 use Rattle.jsonc_engine.specs.Appending.{AppendsLast}
 use Rattle.jsonc_engine.specs.Argument.{IsArgument, IsPath}
 use Rattle.jsonc_engine.specs.Finding.{IsPointer}
@@ -34,8 +34,6 @@ use Rattle.jsonc_engine.specs.Sorting.{SortsByName}
 
 -- the change is what the command asks for, with the names of its path and the value of its JSON text
 pub data IsChangeFor {A : Type 0} : Request → Change A → Type 0 where
-  for_check : IsChangeFor check Stay
-  for_print : IsChangeFor print Stay
   for_set : (name : Bor (List ℕ)) (json : List ℕ) (value : CstInputValue A) → IsArgument json (plain value)
       → IsChangeFor (set name.now json) (Set name value)
   for_append : (json : List ℕ) (value : CstInputValue A) → IsArgument json (plain value) → IsChangeFor (append json) (Append value)
@@ -53,15 +51,15 @@ pub data IsWorkFor {A : Type 0} (o : Options) : Request → Work A → Type 0 wh
   for_patch : (text : List ℕ) (most : ℕ) (operations : Patch A) → IsPatchOf o text (operations_in operations) → IsWorkFor o (patch text most) (Apply operations most)
   for_merge : (text : List ℕ) (value : CstInputValue A) → IsMergePatchOf o text (plain value) → IsWorkFor o (merge text) (Merge value)
 
--- the task is to write JSON, or such work
+-- the task is to leave the text as it is, to write JSON, or such work
 pub data IsTaskFor {A : Type 0} (o : Options) : Request → Task A → Type 0 where
+  for_check : IsTaskFor o check Stay
+  for_print : IsTaskFor o print Stay
   for_json : IsTaskFor o as_json Json
   for_work : (request : Request) (work : Work A) → IsWorkFor o request work → IsTaskFor o request (OnDocument work)
 
 -- what a command makes of a sound document by a change
 abbrev pub Makes : Options → Request → List Node → List Node → Type 0
-Makes o check old new = new ≡ old
-Makes o print old new = new ≡ old
 Makes o (set name json) old new = (v : Plain) × IsArgument json v × SetsFirst (chars name) v old new
 Makes o (append json) old new = (v : Plain) × IsArgument json v × AppendsLast v old new
 Makes o (remove name) old new = LosesFirst (chars name) old new

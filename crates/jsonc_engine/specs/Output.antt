@@ -2,8 +2,12 @@
 use Rattle.std.specs.Prelude.{◌≡◌, ℕ, false, List, Option, Some, None, IsTrue, IsUtf8, String, chars, string_bytes}
 use Rattle.std.specs.Io.KnownBytes.{Appends}
 use Rattle.jsonc_text.specs.Options.{Options, all_on}
+use Rattle.jsonc_engine.specs.declared.output.Made.{Made}
+use Rattle.jsonc_engine.specs.declared.output.Made.TheVariants.{Other, Same}
 use Rattle.jsonc_engine.specs.declared.output.Output.{Output}
 use Rattle.jsonc_engine.specs.declared.output.Output.TheVariants.{Document, Text}
+use Rattle.jsonc_engine.specs.declared.output.Written.{Written}
+use Rattle.jsonc_engine.specs.declared.output.Written.TheVariants as written
 use Rattle.jsonc_engine.specs.Parser.{printed_of}
 use Rattle.jsonc_engine.specs.Causes.{IsJsonOf}
 use Rattle.jsonc_engine.specs.Change.{IsGot, IsMadeOf}
@@ -28,15 +32,23 @@ abbrev pub output_bytes : {A : Type 0} → Output A → List ℕ
 output_bytes (Document document) = printed_of document
 output_bytes (Text text) = string_bytes text
 
--- the command writes these bytes
-abbrev pub IsOutput : {A : Type 0} → Option (String A) → List ℕ → Type 0
-IsOutput None bytes = ⊥
-IsOutput (Some text) bytes = string_bytes text ≡ bytes
+abbrev pub made_bytes : {A : Type 0} → Made A → List ℕ
+made_bytes (Same text) = text.now
+made_bytes (Other output) = output_bytes output
+
+abbrev pub written_bytes : {A : Type 0} → Written A → List ℕ
+written_bytes (written.Input text) = text.now
+written_bytes (written.Text text) = string_bytes text
 
 -- what is written for a command, of these bytes of input, or nothing where the command does not write
 abbrev pub IsWritten : {A : Type 0} → Options → Request → List ℕ → Option (String A) → Type 0
 IsWritten o request input None = writes request ≡ false
 IsWritten {A} o request input (Some text) = IsTrue (writes request) × IsLeft A o request input (string_bytes text)
+
+-- so it is of a text that may be the input itself
+abbrev pub IsWrittenBy : {A : Type 0} → Options → Request → List ℕ → Option (Written A) → Type 0
+IsWrittenBy o request input None = writes request ≡ false
+IsWrittenBy {A} o request input (Some text) = IsTrue (writes request) × IsLeft A o request input (written_bytes text)
 
 -- what a command writes, but for a value that is got and JSON, `check` accepts
 abbrev pub IsAccepted : Request → List ℕ → Type 0

@@ -1,5 +1,5 @@
 -- What `sort` makes of a document.
-use Rattle.std.specs.Prelude.{◌≡◌, ◌<◌, ◌-◌, ℕ, Bool, false, List, [], drop, filter, length, slice_index, take, IsPermutation, Option, Some, None}
+use Rattle.std.specs.Prelude.{◌≡◌, ◌<◌, ◌-◌, ℕ, Bool, false, true, List, [], drop, filter, length, map, slice_index, take, IsPermutation, Option, Some, None}
 use Rattle.std.specs.Cmp.Lexicographic.{slice_cmp}
 use Rattle.std.specs.List.{range_with_len}
 use Rattle.std.specs.List.Sorted.{IsSortedBy, ties}
@@ -14,7 +14,13 @@ use Rattle.jsonc_sound.specs.SoundTrees.{SoundTree}
 use Rattle.jsonc_edit.specs.Paths.{IsAt}
 use Rattle.jsonc_run.specs.Edits.{rearrange}
 use Rattle.jsonc_run.specs.promise.Steps.{IsStep}
+use Rattle.jsonc_sort.specs.Above.{leads_read}
 use Rattle.jsonc_sort.specs.Rearranged.{Rearranged, headers_of}
+use Rattle.jsonc_cst.specs.declared.cst.CstRootNode.{CstRootNode}
+use Rattle.jsonc_cst.specs.declared.cst.node.CstObject.{CstObject}
+use Rattle.jsonc_cst.specs.Document.{nodes_of, tree_of}
+use Rattle.jsonc_cst.specs.sorting.Pins.{header_pin}
+use Rattle.jsonc_cst.specs.sorting.Sorted.{IsPlaced}
 
 -- the bytes of a string without its quotes: all but the first and the last
 abbrev pub between_quotes : List ℕ → List ℕ
@@ -52,6 +58,19 @@ pub record IsByName (ns : List Node) (c : ℕ) (order : List ℕ) : Type 0 where
   pub all : IsPermutation (numbers_in ns c) order
   pub ascends : IsSortedBy (has_less_name ns c) order
   pub stable : (i : ℕ) → i < length (elements_at ns c) → filter (ties (has_less_name ns c) i) order ≡ filter (ties (has_less_name ns c) i) (numbers_in ns c)
+
+-- how many comments stay where they are before each property of the object, as a header: where headers are kept those above the last blank line before it
+abbrev pub pins_at : Bool → List Node → ℕ → List (Option ℕ)
+pins_at false ns c = []
+pins_at true ns c = map header_pin (leads_read ns c)
+
+-- In nodes: where the object stands in a sound document, its properties come in the order of their names, each with all that belongs to it but for what is kept. That is
+-- one step; where it stands in none, nothing of the document changes.
+pub record IsSorted {A : Type 0} (keeps_headers : Bool) (old new : CstRootNode A) (x : CstObject) : Type 0 where
+  pub order : List ℕ
+  pub by_name : (o : Options) (path : List ℕ) → SoundTree o (tree_of old) → IsAt (nodes_of old) path x.number → content_at (nodes_of old) x.number ≡ object
+      → IsByName (nodes_of old) x.number order
+  pub placed : IsPlaced (nodes_of old) (nodes_of new) x.number (headers_of (pins_at keeps_headers (nodes_of old) x.number) false) order
 
 -- The document's value is an object, whose properties are now in the order of their names, each with all that belongs to it: in one step, and nothing else has
 -- changed.

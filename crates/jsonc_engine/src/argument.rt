@@ -1,42 +1,69 @@
-//! The names of a command's path, and the value of its JSON text.
+//! What words say: the value of a JSON text, the names that one lists, and a pointer.
 ghost use Rattle.std.specs.Prelude.{◌≡◌, IfErr, IfOk, Some, chars, false, map, option_map, true};
-ghost use Rattle.jsonc_text.specs.Options.{Options};
+ghost use Rattle.jsonc_text.specs.Options.{Options, all_on};
+ghost use Rattle.jsonc_text.specs.OptionsOf.{parse_options};
 ghost use Rattle.jsonc_text.specs.Plain.{array};
 ghost use Rattle.jsonc_ast.specs.Views as ast;
 ghost use Rattle.jsonc_layout.specs.input.Views.{items_of, plain};
 ghost use Rattle.jsonc_parser.specs.paths.Found.{names_of};
+ghost use Rattle.jsonc_parser.specs.patch.Pointer.{tokens_of};
 ghost use Rattle.jsonc_engine.specs.Argument.{AreNames, AreNoNames, IsArgument, IsFaultOfArgument, IsFaultOfJson};
-ghost use Rattle.jsonc_engine.specs.Argument.{IsFaultOfNames, IsFaultOfPath, IsPath, items_in, strings, text_in};
+ghost use Rattle.jsonc_engine.specs.Argument.{IsFaultOfNames, IsFaultOfPath, IsFaultOfText, IsPath, IsValueOf, items_in, strings, text_in};
 ghost use Rattle.jsonc_engine.specs.Change.{IsChangeFor};
-ghost use Rattle.jsonc_engine.specs.Command.{put};
+ghost use Rattle.jsonc_engine.specs.Command.{find, put};
+ghost use Rattle.jsonc_engine.specs.Finding.{IsPointer};
 
 use crate::fault::Fault;
 use crate::task::Change;
 use jsonc_parser::ast::Value;
-use jsonc_parser::cst::{CstInputValue, input};
+use jsonc_parser::cst::{CstInputValue, EditError, input};
+use jsonc_parser::patch::{Pointer, PointerError};
 use jsonc_parser::{CollectOptions, ParseOptions, parse_to_ast};
 use std::alloc::Allocator;
 
-/// The value of a command's JSON text, of equal names the last at the first place.
+/// The pointer of a text. A text that is none is `Fault::Pointer`.
+pub fn pointer_of<A: Allocator + Copy>(alloc: A, text: &str) -> Result<Pointer<A>, Fault<A>>
+    ensures parsed { IfOk result (λ pointer. IsPointer text.now (tokens_of pointer)) }
+    ensures refused { (o : Options) → IfErr result (IsFaultOfText o (find text.now)) }
+{
+    match Pointer::parse(alloc, text) {
+        Ok(pointer) => Ok(pointer),
+        Err(PointerError::OutOfMemory) => Err(Fault::Edit(EditError::OutOfMemory)),
+        Err(error) => Err(Fault::Pointer(error)),
+    }
+}
+
+/// The value of a JSON text, which may hold what the options allow; of equal names the last at the first place.
 ///
-/// A text that is no document is `Fault::Argument`, one without a value `Fault::NoValue`; the text is parsed under
-/// the default options, which allow comments and all else.
-pub(crate) fn value_of<A: Allocator + Copy>(
+/// A text that is no document is `Fault::Argument`, one without a value `Fault::NoValue`.
+pub fn value_of<A: Allocator + Copy>(
     alloc: A,
+    options: &ParseOptions,
     json: &str,
 ) -> Result<CstInputValue<A>, Fault<A>>
-    ensures value { IfOk result (λ value. IsArgument json.now (plain value)) }
-    ensures refused { IfErr result (IsFaultOfJson json.now) }
+    ensures value { IfOk result (λ value. IsValueOf (parse_options options.now) json.now (plain value)) }
+    ensures refused { IfErr result (IsFaultOfJson (parse_options options.now) json.now) }
 {
-    match input::from_json(alloc, json, &ParseOptions::default()) {
+    match input::from_json(alloc, json, options) {
         Ok(Some(value)) => Ok(value),
         Ok(None) => Err(Fault::NoValue),
         Err(error) => Err(Fault::Argument(error)),
     }
 }
 
-/// The text of a value that is a string.
-fn text_of<'b, A: Allocator>(value: &'b Value<'_, A>) -> Option<&'b str>
+/// The value of a command's JSON text, which may hold all that options allow.
+pub(crate) fn argument_of<A: Allocator + Copy>(
+    alloc: A,
+    json: &str,
+) -> Result<CstInputValue<A>, Fault<A>>
+    ensures value { IfOk result (λ value. IsArgument json.now (plain value)) }
+    ensures refused { IfErr result (IsFaultOfJson all_on json.now) }
+{
+    value_of(alloc, &ParseOptions::default(), json)
+}
+
+/// The text of a value that is a string, with its escapes decoded.
+pub fn text_of<'b, A: Allocator>(value: &'b Value<'_, A>) -> Option<&'b str>
     ensures { option_map (λ s. chars s.now) result ≡ text_in (ast.plain value.now) }
 {
     match value {
@@ -115,15 +142,11 @@ fn names_in<A: Allocator + Copy>(
     }
 }
 
-/// The names of a command's path.
+/// The names that a JSON text lists, which may hold all that options allow: of `["a", 'b']` these are `a` and `b`.
 ///
 /// A text that is no document is `Fault::Path`; one that has no value, or a value that is no list of strings, is
-/// `Fault::NotNames`. The text is parsed as a JSON text of a command is. Behind the parse, memory is wanted for the
-/// names alone.
-pub(crate) fn read_path<A: Allocator + Copy>(
-    alloc: A,
-    path: &str,
-) -> Result<Vec<String<A>, A>, Fault<A>>
+/// `Fault::NotNames`. Behind the parse, memory is wanted for the names alone.
+pub fn read_path<A: Allocator + Copy>(alloc: A, path: &str) -> Result<Vec<String<A>, A>, Fault<A>>
     ensures names { IfOk result (λ names. IsPath path.now (names_of names.items)) }
     ensures refused { IfErr result (IsFaultOfPath path.now) }
 {
@@ -151,7 +174,7 @@ pub(crate) fn put_of<'a, A: Allocator + Copy>(
         Ok(names) => names,
         Err(fault) => return Err(fault),
     };
-    match value_of(alloc, json) {
+    match argument_of(alloc, json) {
         Ok(value) => Ok(Change::Put(names, value)),
         Err(fault) => Err(fault),
     }

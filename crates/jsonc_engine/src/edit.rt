@@ -130,7 +130,6 @@ pub(crate) fn make<A: Allocator + Copy>(
         → IfErr result (IsFaultOn o request (printed_of document.old)) }
 {
     match change {
-        Change::Stay => Ok(()),
         Change::Set(name, value) => set_property(document, name, value),
         Change::Append(value) => append_element(document, value),
         Change::Remove(name) => remove_property(document, name),

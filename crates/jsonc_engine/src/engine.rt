@@ -5,13 +5,14 @@ ghost use Rattle.std.specs.Io.KnownBytes.{Appends, Keeps};
 ghost use Rattle.jsonc_text.specs.Options.{Options};
 ghost use Rattle.jsonc_sound.specs.SoundTrees.{SoundTree};
 ghost use Rattle.jsonc_cst.specs.Document.{tree_of};
+ghost use Rattle.jsonc_engine.specs.Argument.{IsReady};
 ghost use Rattle.jsonc_engine.specs.Calls.{one_more};
 ghost use Rattle.jsonc_engine.specs.Change.{IsChangeFor, IsTaskFor, IsWorkFor};
 ghost use Rattle.jsonc_engine.specs.Command.{Request, as_json, request_of, writes};
 ghost use Rattle.jsonc_engine.specs.Fault.{EndsBehindInput, EndsRun, EndsUnread, IsBeforeOrForMemory, IsCause, IsFaultOn};
 ghost use Rattle.jsonc_engine.specs.Fault.{IsNoText, TellsOfArgument, TellsOfInput};
 ghost use Rattle.jsonc_engine.specs.Input.{IsInput, IsInputOf};
-ghost use Rattle.jsonc_engine.specs.Output.{IsLeft, IsOutput, IsWritten, Puts, output_bytes};
+ghost use Rattle.jsonc_engine.specs.Output.{IsLeft, IsWritten, IsWrittenBy, Puts, made_bytes, output_bytes, written_bytes};
 ghost use Rattle.jsonc_engine.specs.Parser.{all_on, parse_options, printed_of, HasNoDeeperValue, LiesIn};
 
 use crate::calls::{Sink, Source};
@@ -20,7 +21,7 @@ use crate::edit::make;
 use crate::fault::Fault;
 use crate::find::find_value;
 use crate::json::{JsonError, to_json};
-use crate::output::Output;
+use crate::output::{Made, Output, Written};
 use crate::patching::{merged, patched};
 use crate::settings::get_setting;
 use crate::task::{Change, Task, Work, task_of};
@@ -133,8 +134,8 @@ fn write_document<A: Allocator, K: Sink>(
 }
 
 /// Writes a text, and sees that it has left.
-pub fn write_text<A: Allocator, K: Sink>(sink: &mut K, text: &String<A>) -> Result<(), Fault<A>>
-    ensures written { OnOk result (Appends (K.contents sink.old) (K.contents sink.new) (string_bytes text.now)) }
+fn write_text<A: Allocator, K: Sink>(sink: &mut K, text: &str) -> Result<(), Fault<A>>
+    ensures written { OnOk result (Appends (K.contents sink.old) (K.contents sink.new) text.now) }
     ensures flushed { OnOk result (K.is_flushed sink.new) }
     ensures kept { OnOk result (K.failed_writes sink.new ≡ K.failed_writes sink.old) }
     ensures cause { OnErr result (IsErrOf result Fault.Write) }
@@ -146,31 +147,33 @@ pub fn write_text<A: Allocator, K: Sink>(sink: &mut K, text: &String<A>) -> Resu
     finish(sink)
 }
 
-/// The text of what is to be written.
-fn text_of<A: Allocator + Copy>(output: Output<A>) -> Result<Option<String<A>>, Fault<A>>
-    ensures printed { IfOk result (λ text. IsOutput text (output_bytes output)) }
+/// The text of what is to be written. Memory is wanted for that of a document alone.
+fn text_of<'a, A: Allocator + Copy>(made: Made<'a, A>) -> Result<Written<'a, A>, Fault<A>>
+    ensures printed { IfOk result (λ written. written_bytes written ≡ made_bytes made.entry) }
     ensures memory { IfErr result (λ fault. fault ≡ Fault.Edit EditError.OutOfMemory) }
 {
-    match output {
-        Output::Document(document) => match document.text() {
-            Ok(text) => Ok(Some(text)),
+    match made {
+        Made::Same(text) => Ok(Written::Input(text)),
+        Made::Other(Output::Document(document)) => match document.text() {
+            Ok(text) => Ok(Written::Text(text)),
             Err(_) => Err(Fault::Edit(EditError::OutOfMemory)),
         },
-        Output::Text(text) => Ok(Some(text)),
+        Made::Other(Output::Text(text)) => Ok(Written::Text(text)),
     }
 }
 
-/// Writes what is to be written: the document where there is no text in its place.
-fn write_output<A: Allocator, K: Sink>(sink: &mut K, output: &Output<A>) -> Result<(), Fault<A>>
-    ensures written { OnOk result (Appends (K.contents sink.old) (K.contents sink.new) (output_bytes output.now)) }
+/// Writes what is to be written, a document piece by piece.
+fn write_made<A: Allocator, K: Sink>(sink: &mut K, made: &Made<'_, A>) -> Result<(), Fault<A>>
+    ensures written { OnOk result (Appends (K.contents sink.old) (K.contents sink.new) (made_bytes made.now)) }
     ensures flushed { OnOk result (K.is_flushed sink.new) }
     ensures kept { OnOk result (K.failed_writes sink.new ≡ K.failed_writes sink.old) }
     ensures cause { OnErr result (IsErrOf result Fault.Write) }
     ensures failed { OnErr result (K.failed_writes sink.new ≡ one_more (K.failed_writes sink.old)) }
 {
-    match output {
-        Output::Document(document) => write_document(sink, document),
-        Output::Text(text) => write_text(sink, text),
+    match made {
+        Made::Same(text) => write_text(sink, text),
+        Made::Other(Output::Document(document)) => write_document(sink, document),
+        Made::Other(Output::Text(text)) => write_text(sink, text.as_str()),
     }
 }
 
@@ -223,38 +226,42 @@ fn outcome_of<A: Allocator + Copy>(
 }
 
 /// What is to be written of the document of a text, given what that may hold beyond JSON.
-fn written_of<A: Allocator + Copy>(
+fn done_with<'a, A: Allocator + Copy>(
     alloc: A,
     options: &ParseOptions,
     work: Work<'_, A>,
     text: &str,
-) -> Result<Output<A>, Fault<A>>
+) -> Result<Made<'a, A>, Fault<A>>
     ensures left { (request : Request)
         → IsWorkFor (parse_options options.now) request work.entry
-        → IfOk result (λ output. IsLeft A (parse_options options.now) request text.now (output_bytes output)) }
+        → IfOk result (λ made. IsLeft A (parse_options options.now) request text.now (made_bytes made)) }
     ensures accepted { OnOk result (IsInputOf (parse_options options.now) text.now) }
     ensures refused { (request : Request)
         → IsWorkFor (parse_options options.now) request work.entry
         → IfErr result (IsFaultOn (parse_options options.now) request text.now) }
 {
-    match CstRootNode::parse(alloc, text, options) {
-        Ok(document) => outcome_of(document, work),
-        Err(error) => Err(Fault::Input(error)),
+    let document = match CstRootNode::parse(alloc, text, options) {
+        Ok(document) => document,
+        Err(error) => return Err(Fault::Input(error)),
+    };
+    match outcome_of(document, work) {
+        Ok(output) => Ok(Made::Other(output)),
+        Err(fault) => Err(fault),
     }
 }
 
 /// The document of a text as JSON, given what the text may hold beyond that.
-fn json_of<A: Allocator + Copy>(
+fn json_of<'a, A: Allocator + Copy>(
     alloc: A,
     options: &ParseOptions,
     text: &str,
-) -> Result<Output<A>, Fault<A>>
-    ensures left { IfOk result (λ output. IsLeft A (parse_options options.now) as_json text.now (output_bytes output)) }
+) -> Result<Made<'a, A>, Fault<A>>
+    ensures left { IfOk result (λ made. IsLeft A (parse_options options.now) as_json text.now (made_bytes made)) }
     ensures accepted { OnOk result (IsInputOf (parse_options options.now) text.now) }
     ensures refused { IfErr result (IsFaultOn (parse_options options.now) as_json text.now) }
 {
     match to_json(alloc, text, options) {
-        Ok(written) => Ok(Output::Text(written)),
+        Ok(written) => Ok(Made::Other(Output::Text(written))),
         Err(JsonError::Text(error)) => Err(Fault::Input(error)),
         Err(JsonError::NoValue) => Err(Fault::NoRoot),
         Err(JsonError::NonFinite(place)) => Err(Fault::NonFinite(line_and_column(text, place))),
@@ -262,18 +269,34 @@ fn json_of<A: Allocator + Copy>(
     }
 }
 
+/// A text as it is, where it is a document: it asks for no memory.
+fn unchanged<'a, A: Allocator + Copy>(
+    alloc: A,
+    options: &ParseOptions,
+    text: &'a str,
+) -> Result<Made<'a, A>, Fault<A>>
+    ensures left { IfOk result (λ made. made_bytes made ≡ text.now) }
+    ensures accepted { OnOk result (IsInputOf (parse_options options.now) text.now) }
+    ensures refused { (request : Request) → IfErr result (IsFaultOn (parse_options options.now) request text.now) }
+{
+    match check_document(alloc, text, options) {
+        Ok(()) => Ok(Made::Same(text)),
+        Err(error) => Err(Fault::Input(error)),
+    }
+}
+
 /// What is to be written of the input's bytes, given what their text may hold beyond JSON.
 ///
 /// The bytes may be refused as `Fault::NotUtf8` or `Fault::Input`, and the rest as its page says.
-fn output_of<A: Allocator + Copy>(
+fn made_of<'a, A: Allocator + Copy>(
     alloc: A,
     options: &ParseOptions,
     task: Task<'_, A>,
-    input: &[u8],
-) -> Result<Output<A>, Fault<A>>
+    input: &'a [u8],
+) -> Result<Made<'a, A>, Fault<A>>
     ensures left { (request : Request)
         → IsTaskFor (parse_options options.now) request task.entry
-        → IfOk result (λ output. IsLeft A (parse_options options.now) request input.now (output_bytes output)) }
+        → IfOk result (λ made. IsLeft A (parse_options options.now) request input.now (made_bytes made)) }
     ensures accepted { OnOk result (IsInputOf (parse_options options.now) input.now) }
     ensures not_utf8 { ¬ (IsUtf8 input.now) → IfErr result (λ fault. fault ≡ Fault.NotUtf8) }
     ensures refused { (request : Request)
@@ -284,30 +307,10 @@ fn output_of<A: Allocator + Copy>(
         return Err(Fault::NotUtf8);
     };
     match task {
+        Task::Stay => unchanged(alloc, options, text),
         Task::Json => json_of(alloc, options, text),
-        Task::OnDocument(work) => written_of(alloc, options, work, text),
+        Task::OnDocument(work) => done_with(alloc, options, work, text),
     }
-}
-
-/// Checks the input's bytes, and keeps nothing of them: it asks for no memory.
-///
-/// They are refused as the bytes of a document are, as `Fault::NotUtf8` or `Fault::Input`.
-fn checked<A: Allocator + Copy>(
-    alloc: A,
-    options: &ParseOptions,
-    input: &[u8],
-) -> Result<(), Fault<A>>
-    ensures accepted { OnOk result (IsInputOf (parse_options options.now) input.now) }
-    ensures not_utf8 { ¬ (IsUtf8 input.now) → IfErr result (λ fault. fault ≡ Fault.NotUtf8) }
-    ensures refused { (request : Request) → IfErr result (IsFaultOn (parse_options options.now) request input.now) }
-{
-    let Ok(text) = str::from_utf8(input) else {
-        return Err(Fault::NotUtf8);
-    };
-    let Err(error) = check_document(alloc, text, options) else {
-        return Ok(());
-    };
-    Err(Fault::Input(error))
 }
 
 /// What the command writes, given the bytes of the input and what their text may hold beyond JSON, or `None` where
@@ -320,6 +323,39 @@ fn checked<A: Allocator + Copy>(
 /// the command as `Fault::NotObject`, `NotArray`, `NoSetting`, `NoSuchValue`, `OnTheWay`, `RepeatedName`, `Operation`,
 /// `TooLarge`, `NoRoot` or `NonFinite`, and memory as `Fault::Edit`, or as the error of a parse. What is written, but
 /// for a value that is got and JSON, `check` accepts.
+///
+/// `check` and `print` want no memory, and what `print` writes is the input itself, which is not copied.
+pub fn written_by<'a, A: Allocator + Copy>(
+    alloc: A,
+    options: &ParseOptions,
+    command: Command<'_>,
+    input: &'a [u8],
+) -> Result<Option<Written<'a, A>>, Fault<A>>
+    ensures written { IfOk result (IsWrittenBy (parse_options options.now) (request_of command.entry) input.now) }
+    ensures ready { OnOk result (IsReady (request_of command.entry)) }
+    ensures accepted { OnOk result (IsInputOf (parse_options options.now) input.now) }
+    ensures not_utf8 { ¬ (IsUtf8 input.now)
+        → IfErr result (IsNoText (parse_options options.now) (request_of command.entry)) }
+    ensures refused { IfErr result (IsCause (parse_options options.now) (request_of command.entry) input.now) }
+{
+    let task = match task_of(alloc, options, command) {
+        Ok(task) => task,
+        Err(fault) => return Err(fault),
+    };
+    let made = match made_of(alloc, options, task, input) {
+        Ok(made) => made,
+        Err(fault) => return Err(fault),
+    };
+    if !command.writes() {
+        return Ok(None);
+    }
+    match text_of(made) {
+        Ok(written) => Ok(Some(written)),
+        Err(fault) => Err(fault),
+    }
+}
+
+/// What [`written_by`] answers, as a text of its own.
 pub fn run_with<A: Allocator + Copy>(
     alloc: A,
     options: &ParseOptions,
@@ -332,21 +368,15 @@ pub fn run_with<A: Allocator + Copy>(
         → IfErr result (IsNoText (parse_options options.now) (request_of command.entry)) }
     ensures refused { IfErr result (IsCause (parse_options options.now) (request_of command.entry) input.now) }
 {
-    let task = match task_of(alloc, options, command) {
-        Ok(task) => task,
+    let written = match written_by(alloc, options, command, input) {
+        Ok(Some(written)) => written,
+        Ok(None) => return Ok(None),
         Err(fault) => return Err(fault),
     };
-    if !command.writes() {
-        let Err(fault) = checked(alloc, options, input) else {
-            return Ok(None);
-        };
-        return Err(fault);
+    match written.into_text(alloc) {
+        Ok(text) => Ok(Some(text)),
+        Err(_) => Err(Fault::Edit(EditError::OutOfMemory)),
     }
-    let output = match output_of(alloc, options, task, input) {
-        Ok(output) => output,
-        Err(fault) => return Err(fault),
-    };
-    text_of(output)
 }
 
 /// The same under the default options, which allow comments and all else.
@@ -367,7 +397,7 @@ pub fn run_on<A: Allocator + Copy>(
 ///
 /// Failed calls are `Fault::Read` and `Fault::Write`; else the faults are those of `run_on`. A command's path is read
 /// before its JSON text, and these, a pointer and a patch before the source is. A document is written piece by piece,
-/// which needs no memory; a value that is got and JSON are a text first.
+/// which needs no memory; `print` writes the text that was read, and a value that is got and JSON are a text first.
 pub fn engine<A: Allocator + Copy, S: Source, K: Sink>(
     alloc: A,
     command: Command<'_>,
@@ -422,12 +452,12 @@ pub fn engine<A: Allocator + Copy, S: Source, K: Sink>(
         Ok(input) => input,
         Err(fault) => return Err(fault),
     };
-    if !command.writes() {
-        return checked(alloc, &options, input.as_slice());
-    }
-    let output = match output_of(alloc, &options, task, input.as_slice()) {
-        Ok(output) => output,
+    let made = match made_of(alloc, &options, task, input.as_slice()) {
+        Ok(made) => made,
         Err(fault) => return Err(fault),
     };
-    write_output(sink, &output)
+    if !command.writes() {
+        return Ok(());
+    }
+    write_made(sink, &made)
 }

@@ -4,7 +4,6 @@ ghost use Rattle.jsonc_text.specs.Options.{Options};
 ghost use Rattle.jsonc_sound.specs.SoundTrees.{SoundTree};
 ghost use Rattle.jsonc_cst.specs.Document.{printed_of, tree_of};
 ghost use Rattle.jsonc_parser.specs.patch.Pointer.{tokens_of};
-ghost use Rattle.jsonc_engine.specs.Argument.{IsFaultOfText};
 ghost use Rattle.jsonc_engine.specs.Command.{find as find_at};
 ghost use Rattle.jsonc_engine.specs.Fault.{IsFaultOn};
 ghost use Rattle.jsonc_engine.specs.Finding.{IsFound, IsPointer};
@@ -13,20 +12,8 @@ ghost use Rattle.jsonc_engine.specs.Output.{output_bytes};
 use crate::fault::Fault;
 use crate::output::Output;
 use jsonc_parser::cst::{CstRootNode, EditError, TypedNode};
-use jsonc_parser::patch::{FindError, Pointer, PointerError, find};
+use jsonc_parser::patch::{FindError, Pointer, find};
 use std::alloc::Allocator;
-
-/// The pointer of a text.
-pub(crate) fn pointer_of<A: Allocator + Copy>(alloc: A, text: &str) -> Result<Pointer<A>, Fault<A>>
-    ensures parsed { IfOk result (λ pointer. IsPointer text.now (tokens_of pointer)) }
-    ensures refused { (o : Options) → IfErr result (IsFaultOfText o (find_at text.now)) }
-{
-    match Pointer::parse(alloc, text) {
-        Ok(pointer) => Ok(pointer),
-        Err(PointerError::OutOfMemory) => Err(Fault::Edit(EditError::OutOfMemory)),
-        Err(error) => Err(Fault::Pointer(error)),
-    }
-}
 
 /// The value that a pointer refers to as it is written, and a line feed after it.
 ///

@@ -34,7 +34,7 @@ use jsonc_text::options::ParseOptions;
 use literal::{Literal, push_literal};
 use number::is_non_finite;
 use output::put;
-use std::alloc::{AllocError, AllocFailed, Allocator};
+use std::alloc::{AllocError, Allocator};
 
 /// Why a text is not written as JSON.
 #[derive(Debug, Drop)]
@@ -47,14 +47,6 @@ pub enum JsonError {
     NonFinite(usize),
     /// An allocation failed.
     OutOfMemory,
-}
-
-impl<T: Drop> From<AllocFailed<T>> for JsonError {
-    ghost from_gives = { λ _ error. error ≡ OutOfMemory };
-
-    fn from(_error: AllocFailed<T>) -> JsonError {
-        JsonError::OutOfMemory
-    }
 }
 
 impl From<AllocError> for JsonError {

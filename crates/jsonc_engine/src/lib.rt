@@ -2,7 +2,7 @@
 //! the bytes that are written or the fault that is printed.
 #![tactic(auto)]
 
-mod argument;
+pub mod argument;
 pub mod calls;
 pub mod command;
 mod edit;
@@ -11,10 +11,10 @@ pub mod fault;
 mod find;
 pub mod json;
 pub mod laws;
-mod output;
+pub mod output;
 mod patching;
 mod settings;
 mod sort;
 mod task;
 
-pub use sort::written_name;
+pub use sort::{sort_object, written_name};

@@ -1,16 +1,17 @@
 //! Properties that are sorted by their names as they are written.
-ghost use Rattle.std.specs.Prelude.{◌≡◌, IfErr, OnErr, OnOk};
+ghost use Rattle.std.specs.Prelude.{◌≡◌, IfErr, OnErr, OnOk, false, true};
 ghost use Rattle.jsonc_cst.specs.Document.{nodes_of, printed_of, tree_of, HasNode};
+ghost use Rattle.jsonc_cst.specs.typed.Edits.{HandlesStay};
 ghost use Rattle.std.specs.Cmp.Lexicographic.{slice_cmp};
 ghost use Rattle.std.specs.Ordering.{nat_cmp};
-ghost use Rattle.jsonc_engine.specs.Sorting.{SortsIfSound, between_quotes, written_name};
+ghost use Rattle.jsonc_engine.specs.Sorting.{IsSorted, SortsIfSound, between_quotes, written_name};
 ghost use Rattle.jsonc_text.specs.Options.{Options};
 ghost use Rattle.jsonc_sound.specs.SoundTrees.{SoundTree};
-ghost use Rattle.jsonc_cst.specs.Nodes.{object_prop_node};
+ghost use Rattle.jsonc_cst.specs.Nodes.{object_node, object_prop_node};
 ghost use Rattle.jsonc_engine.specs.Fault.{EndsOnObject};
 
 use crate::fault::Fault;
-use jsonc_parser::cst::{CstObjectProp, CstRootNode, ObjectPropName};
+use jsonc_parser::cst::{CstObject, CstObjectProp, CstRootNode, EditError, ObjectPropName};
 use std::alloc::Allocator;
 use std::cmp::Ordering;
 
@@ -52,8 +53,64 @@ fn compare_names<A: Allocator>(
     name.cmp(&written_name(document, other))
 }
 
-/// Sorts the properties of the document's object by their names as they are written, without quotes, byte by byte.
-/// What belongs to a property goes with it, and properties of one name stay in their order.
+/// Sorts the properties of an object by their names, each with all comments above it.
+fn sort_plainly<A: Allocator + Copy>(
+    document: &mut CstRootNode<A>,
+    object: CstObject,
+) -> Result<(), EditError>
+    requires { HasNode document.old (object_node object) }
+    ensures sorted { OnOk result (IsSorted false document.old document.new object) }
+    ensures memory { IfErr result (λ e. e ≡ EditError.OutOfMemory) }
+    ensures handles { HandlesStay document.old document.new }
+    ensures document { OnErr result (tree_of document.new ≡ tree_of document.old) }
+{
+    object.sort_properties().by(
+        document,
+        |document: &CstRootNode<_>, one, other| compare_names(document, one, other),
+    )
+}
+
+/// Sorts the properties of an object by their names, under the comments above the last blank line before each.
+fn sort_under_headers<A: Allocator + Copy>(
+    document: &mut CstRootNode<A>,
+    object: CstObject,
+) -> Result<(), EditError>
+    requires { HasNode document.old (object_node object) }
+    ensures sorted { OnOk result (IsSorted true document.old document.new object) }
+    ensures memory { IfErr result (λ e. e ≡ EditError.OutOfMemory) }
+    ensures handles { HandlesStay document.old document.new }
+    ensures document { OnErr result (tree_of document.new ≡ tree_of document.old) }
+{
+    object.sort_properties().keep_headers().by(
+        document,
+        |document: &CstRootNode<_>, one, other| compare_names(document, one, other),
+    )
+}
+
+/// Sorts the properties of an object by their names as they are written, without quotes, byte by byte.
+///
+/// What belongs to a property goes with it, all comments above it too; where headers are kept, those above the last blank
+/// line before it stay where they are. Properties of one name stay in their order. Memory may be wanted, and then
+/// the document stays as it was.
+pub fn sort_object<A: Allocator + Copy>(
+    document: &mut CstRootNode<A>,
+    object: CstObject,
+    keeps_headers: bool,
+) -> Result<(), EditError>
+    requires { HasNode document.old (object_node object) }
+    ensures sorted { OnOk result (IsSorted keeps_headers document.old document.new object) }
+    ensures memory { IfErr result (λ e. e ≡ EditError.OutOfMemory) }
+    ensures handles { HandlesStay document.old document.new }
+    ensures document { OnErr result (tree_of document.new ≡ tree_of document.old) }
+{
+    if keeps_headers {
+        sort_under_headers(document, object)
+    } else {
+        sort_plainly(document, object)
+    }
+}
+
+/// Sorts the properties of the document's object as [`sort_object`] does, and keeps no headers.
 ///
 /// It is `Fault::NotObject` where the document's value is no object, or there is none. Memory may be wanted,
 /// which is `Fault::Edit`. On an error the document stays as it was.
@@ -69,10 +126,7 @@ pub(crate) fn sort_properties<A: Allocator + Copy>(
     let Some(object) = document.object_value() else {
         return Err(Fault::NotObject);
     };
-    match object.sort_properties().by(
-        document,
-        |document: &CstRootNode<_>, one, other| compare_names(document, one, other),
-    ) {
+    match sort_object(document, object, false) {
         Ok(()) => Ok(()),
         Err(error) => Err(Fault::Edit(error)),
     }

@@ -8,10 +8,9 @@ ghost use Rattle.jsonc_engine.specs.Command.{request_of, value_at};
 ghost use Rattle.jsonc_engine.specs.declared.task.Task.TheVariants.{OnDocument};
 ghost use Rattle.jsonc_engine.specs.declared.task.Work.TheVariants.{Make};
 
-use crate::argument::{put_of, read_path, value_of};
+use crate::argument::{argument_of, pointer_of, put_of, read_path};
 use crate::command::{Command, Place};
 use crate::fault::Fault;
-use crate::find::pointer_of;
 use crate::patching::{merge_patch_of, patch_of};
 use jsonc_parser::ParseOptions;
 use jsonc_parser::cst::CstInputValue;
@@ -21,8 +20,6 @@ use std::alloc::Allocator;
 /// What a command makes of the document.
 #[derive(Drop)]
 pub(crate) enum Change<'a, A: Allocator> {
-    /// Nothing.
-    Stay,
     /// The first property of the name gets the value, or such a property is inserted after the last.
     Set(&'a str, CstInputValue<A>),
     /// The value is inserted after the last element.
@@ -52,10 +49,12 @@ pub(crate) enum Work<'a, A: Allocator> {
     Merge(CstInputValue<A>),
 }
 
-/// What is written of the input.
+/// What is written of the input. No document is made but for work on it.
 #[derive(Drop)]
 pub(crate) enum Task<'a, A: Allocator> {
-    /// Its text as JSON, of which no document is made.
+    /// Its text as it is, where that is a document.
+    Stay,
+    /// Its text as JSON.
     Json,
     /// What this is of its document.
     OnDocument(Work<'a, A>),
@@ -96,10 +95,10 @@ pub(crate) fn task_of<'a, A: Allocator + Copy>(
     ensures refused { IfErr result (IsFaultOfArgument (parse_options options.now) (request_of command.entry)) }
 {
     match command {
-        Command::Check => Ok(making(Change::Stay)),
-        Command::Print => Ok(making(Change::Stay)),
-        Command::Set { name, json } => Ok(making(Change::Set(name, value_of(alloc, json)?))),
-        Command::Append { json } => Ok(making(Change::Append(value_of(alloc, json)?))),
+        Command::Check => Ok(Task::Stay),
+        Command::Print => Ok(Task::Stay),
+        Command::Set { name, json } => Ok(making(Change::Set(name, argument_of(alloc, json)?))),
+        Command::Append { json } => Ok(making(Change::Append(argument_of(alloc, json)?))),
         Command::Remove { name } => Ok(making(Change::Remove(name))),
         Command::Sort => Ok(making(Change::Sort)),
         Command::Get { place } => Ok(Task::OnDocument(look_of(alloc, place)?)),

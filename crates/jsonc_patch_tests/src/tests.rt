@@ -7,4 +7,3 @@ mod refusals;
 mod rows;
 mod runs;
 mod streams;
-mod words;

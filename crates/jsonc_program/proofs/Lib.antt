@@ -12,3 +12,5 @@ mod EditMakes
 mod Values
 mod EditComments
 mod EditEntries
+mod Layouts
+mod Mends

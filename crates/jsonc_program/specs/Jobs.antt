@@ -7,11 +7,13 @@ use Rattle.jsonc_words.specs.declared.call.Command.{Command}
 use Rattle.jsonc_words.specs.declared.call.Command.TheVariants as called
 use Rattle.jsonc_words.specs.declared.call.Format.{Format}
 use Rattle.jsonc_words.specs.declared.call.Format.TheVariants as formats
+use Rattle.jsonc_program.specs.Formatting.{IsLayoutOf}
 use Rattle.jsonc_program.specs.Place.{IsPlace, IsNoPlace, is_names}
 use Rattle.jsonc_program.specs.declared.edit.task.Edit.{Edit}
 use Rattle.jsonc_program.specs.declared.edit.task.Edit.TheVariants as edit
 use Rattle.jsonc_program.specs.declared.edit.task.Target.TheVariants.{At, Named}
 use Rattle.jsonc_program.specs.declared.job.Job.{Job}
+use Rattle.jsonc_program.specs.declared.layout.Layout.{Layout}
 use Rattle.jsonc_program.specs.declared.job.Job.TheVariants as job
 
 -- how many bytes a document may have that is patched: a thousand million, where the words name no other number
@@ -27,7 +29,7 @@ IsPlaceOf _ _ = ⊥
 
 -- what the engine is asked for by a command with this text as its last argument, and with `--must-exist` or without
 abbrev pub IsRunOf : Command → Bool → List ℕ → Request → Type 0
-IsRunOf (called.Check format) must text request = (format ≡ formats.Text) × (request ≡ check)
+IsRunOf (called.Check format all) must text request = (format ≡ formats.Text) × (all ≡ false) × (request ≡ check)
 IsRunOf called.Print must text request = request ≡ print
 IsRunOf (called.Set name value) must text request = (must ≡ false) × (request ≡ set name.now text)
 IsRunOf (called.Append value) must text request = request ≡ append text
@@ -73,13 +75,22 @@ abbrev pub IsLintOf : Command → Format → Bool → Type 0
 IsLintOf (called.Lint as_format commas) format no_commas = (format ≡ as_format) × (no_commas ≡ commas)
 IsLintOf other format no_commas = ⊥
 
+-- how a document is to be laid out, and whether it is only to be checked, or shown what changes
+abbrev pub IsFormatOf : Command → Layout → (only shows : Bool) → Type 0
+IsFormatOf (called.Format indent line_end expand commas checks diff) layout only shows =
+    IsLayoutOf indent line_end expand commas layout × (only ≡ checks) × (shows ≡ diff)
+IsFormatOf other layout only shows = ⊥
+
 -- the job is what the command asks for
 abbrev pub IsJobOf : Command → Bool → List ℕ → Job → Type 0
 IsJobOf command must text (job.Run asked) = IsRunOf command must text (request_of asked)
 IsJobOf command must text (job.Edit asked) = IsEditOf command must text asked
 IsJobOf command must text (job.Get place is_raw) = IsGetOf command place is_raw
-IsJobOf command must text job.Check = command ≡ called.Check formats.Json
+IsJobOf command must text job.Check = command ≡ called.Check formats.Json false
+IsJobOf command must text (job.CheckAll format) = command ≡ called.Check format true
 IsJobOf command must text (job.Lint format no_commas) = IsLintOf command format no_commas
+IsJobOf command must text (job.Format layout only shows) = IsFormatOf command layout only shows
+IsJobOf command must text job.Mend = command ≡ called.Mend
 
 -- the words of the places of a command
 abbrev pub HasPlace : Command → List ℕ → Type 0

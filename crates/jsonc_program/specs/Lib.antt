@@ -1,8 +1,10 @@
 pub mod Arguments
 pub mod Dialect
+pub mod Formatting
 pub mod Jobs
 pub mod Lines
 pub mod Mark
+pub mod Mending
 pub mod Place
 pub mod Raw
 pub mod Replacing

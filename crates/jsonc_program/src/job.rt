@@ -8,10 +8,11 @@ ghost use Rattle.jsonc_program.specs.Jobs.{HasPlace, IsJobOf, IsPlaceOf};
 ghost use Rattle.jsonc_program.specs.Place.{IsNoPlace, IsPlace};
 
 use crate::edit::{Edit, Target};
+use crate::layout::{Layout, layout_of};
 use crate::place::place_of;
 use jsonc_engine::command::{Command, Place};
 use jsonc_words::call;
-use jsonc_words::call::Format;
+use jsonc_words::call::{Format, Indent, LineEnd, TrailingCommas};
 
 /// How many bytes a document may have that is patched, where the words name no other number.
 const MOST_BYTES: usize = 1_000_000_000;
@@ -28,13 +29,27 @@ pub enum Job<'a> {
         place: Place<'a>,
         is_raw: bool,
     },
-    /// Its faults, as JSON.
+    /// Its fault, as JSON.
     Check,
+    /// All of its faults.
+    CheckAll {
+        format: Format,
+    },
     /// What a linter finds in it.
     Lint {
         format: Format,
         no_trailing_commas: bool,
     },
+    /// The document with other blanks.
+    Format {
+        layout: Layout,
+        /// Whether it is told whether it would change, and the document is not written.
+        only_checks: bool,
+        /// Whether what would change is written, and not the document.
+        shows_diff: bool,
+    },
+    /// The document that small changes make of it.
+    Mend,
 }
 
 /// A word that names no place.
@@ -161,12 +176,33 @@ fn sort_job<'a>(at: Option<Place<'a>>, is_recursive: bool, keeps_headers: bool) 
     })
 }
 
-fn check_job<'a>(format: Format) -> Job<'a>
-    ensures { (must : Bool) (text : List ℕ) → IsJobOf (called.Check format) must text result }
+fn check_job<'a>(format: Format, finds_all: bool) -> Job<'a>
+    ensures { (must : Bool) (text : List ℕ) → IsJobOf (called.Check format finds_all) must text result }
 {
+    if finds_all {
+        return Job::CheckAll { format };
+    }
     match format {
         Format::Text => Job::Run(Command::Check),
         Format::Json => Job::Check,
+    }
+}
+
+fn format_job<'a>(
+    indent: Option<Indent>,
+    line_end: Option<LineEnd>,
+    expand: bool,
+    trailing_commas: Option<TrailingCommas>,
+    only_checks: bool,
+    shows_diff: bool,
+) -> Job<'a>
+    ensures { (must : Bool) (text : List ℕ) → IsJobOf (called.Format indent line_end expand trailing_commas only_checks shows_diff) must text result }
+{
+    let layout = layout_of(indent, line_end, expand, trailing_commas);
+    Job::Format {
+        layout,
+        only_checks,
+        shows_diff,
     }
 }
 
@@ -190,7 +226,7 @@ pub fn job_of<'a>(
     ensures refused { IfErr result (λ fault. HasPlace command.entry fault.word.now × IsNoPlace fault.word.now) }
 {
     match command {
-        call::Command::Check { format } => Ok(check_job(format)),
+        call::Command::Check { format, finds_all } => Ok(check_job(format, finds_all)),
         call::Command::Print => Ok(Job::Run(Command::Print)),
         call::Command::Set { name, .. } => Ok(set_job(name, text, must_exist)),
         call::Command::Append { .. } => Ok(Job::Run(Command::Append { json: text })),
@@ -225,5 +261,21 @@ pub fn job_of<'a>(
             format,
             no_trailing_commas,
         }),
+        call::Command::Format {
+            indent,
+            line_end,
+            expand,
+            trailing_commas,
+            only_checks,
+            shows_diff,
+        } => Ok(format_job(
+            indent,
+            line_end,
+            expand,
+            trailing_commas,
+            only_checks,
+            shows_diff,
+        )),
+        call::Command::Mend => Ok(Job::Mend),
     }
 }

@@ -23,6 +23,16 @@ pub fn split_mark(bytes: &[u8]) -> (&[u8], &[u8])
     (&bytes[..len], &bytes[len..])
 }
 
+/// The byte order mark at the front, as a text.
+pub(crate) fn mark_text(bytes: &[u8]) -> &'static str
+    ensures { result.now ≡ take (mark_length bytes.now) bytes.now }
+{
+    match bytes {
+        [239, 187, 191, ..] => "\u{feff}",
+        _ => "",
+    }
+}
+
 /// The two parts as one.
 pub(crate) fn joined(alloc: Global, first: &[u8], second: &[u8]) -> Result<Vec<u8>, AllocError>
     ensures { IfOk result (λ bytes. bytes.items ≡ first.now ++ second.now) }

@@ -1,4 +1,6 @@
 //! The tests, and what they share.
 
+mod diffs;
 mod edits;
+mod layouts;
 mod rows;

@@ -1,14 +1,16 @@
 -- Commands with their arguments.
-use Rattle.std.specs.Prelude.{Option, Some, None}
+use Rattle.std.specs.Prelude.{Bool, true, false, not, ◌&&◌, Option, Some, None}
 use Rattle.jsonc_words.specs.declared.call.Text.{Text}
 use Rattle.jsonc_words.specs.declared.call.Command.{Command}
 use Rattle.jsonc_words.specs.declared.call.Command.TheVariants as command
+use Rattle.jsonc_words.specs.declared.call.TrailingCommas.TheVariants as commas
 use Rattle.jsonc_words.specs.declared.name.CommandName.{CommandName}
 use Rattle.jsonc_words.specs.declared.name.CommandName.TheVariants as name
+use Rattle.jsonc_words.specs.Names.{works_in_place}
 
 -- the name of a command
 abbrev pub name_of : Command → CommandName
-name_of (command.Check format) = name.Check
+name_of (command.Check format all) = name.Check
 name_of command.Print = name.Print
 name_of (command.Set key value) = name.Set
 name_of (command.Append value) = name.Append
@@ -23,6 +25,18 @@ name_of (command.Patch patch most) = name.Patch
 name_of (command.Merge patch) = name.Merge
 name_of command.Json = name.Json
 name_of (command.Lint format commas) = name.Lint
+name_of (command.Format indent line_end expand commas check diff) = name.Format
+name_of command.Mend = name.Mend
+
+-- whether the command writes the document, which is what `--in-place` is for
+abbrev pub writes_document : Command → Bool
+writes_document (command.Format indent line_end expand commas check diff) = not check && not diff
+writes_document other = works_in_place (name_of other)
+
+-- whether the command sets trailing commas
+abbrev pub sets_commas : Command → Bool
+sets_commas (command.Format indent line_end expand (Some commas.Multiline) check diff) = true
+sets_commas other = false
 
 -- the text of the argument that `-f` may give, where the command has one
 abbrev pub text_in : Command → Option Text

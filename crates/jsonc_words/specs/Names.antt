@@ -1,7 +1,7 @@
 -- The names of the commands.
 use Rattle.std.specs.Prelude.{ℕ, Bool, true, false, List, codes}
 use Rattle.jsonc_words.specs.declared.name.CommandName.{CommandName}
-use Rattle.jsonc_words.specs.declared.name.CommandName.TheVariants.{Check, Print, Set, Append, Remove, Sort, Drop, Get, Put, Rename, Comment, Patch, Merge, Json, Lint}
+use Rattle.jsonc_words.specs.declared.name.CommandName.TheVariants.{Check, Print, Set, Append, Remove, Sort, Drop, Get, Put, Rename, Comment, Patch, Merge, Json, Lint, Format, Mend}
 
 -- the word that names a command
 abbrev pub text_of : CommandName → List ℕ
@@ -20,8 +20,10 @@ text_of Patch = codes "patch"
 text_of Merge = codes "merge"
 text_of Json = codes "json"
 text_of Lint = codes "lint"
+text_of Format = codes "format"
+text_of Mend = codes "mend"
 
--- the commands that write the document, which is what `--in-place` is for
+-- the commands that write the document, unless an option asks for a check or a diff
 abbrev pub works_in_place : CommandName → Bool
 works_in_place Check = false
 works_in_place Get = false

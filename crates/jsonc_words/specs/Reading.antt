@@ -1,5 +1,5 @@
 -- What a call says, by the matches of `clap`.
-use Rattle.std.specs.Prelude.{◌≡◌, ℕ, Bool, true, false, List, [], ◌∷◌, ◌++◌, Option, Some, None, codes, option_map, option_and_then, IfSome, drop, slice_get}
+use Rattle.std.specs.Prelude.{◌≡◌, ◌+◌, ◌≤◌, ℕ, Bool, true, false, List, [], ◌∷◌, ◌++◌, Option, Some, None, codes, option_map, option_and_then, IfSome, drop, slice_get}
 use Rattle.std.specs.Option.{option_map_or}
 use Rattle.std.specs.Str.Parse.{digits_value, without_leading_plus}
 use Rattle.clap.specs.Matches.{first_value, found_of, matched_of, one_text, raw_values}
@@ -12,6 +12,12 @@ use Rattle.jsonc_words.specs.declared.call.Dialect.{Dialect}
 use Rattle.jsonc_words.specs.declared.call.Dialect.TheVariants as dialect
 use Rattle.jsonc_words.specs.declared.call.Format.{Format}
 use Rattle.jsonc_words.specs.declared.call.Format.TheVariants as format
+use Rattle.jsonc_words.specs.declared.call.Indent.{Indent}
+use Rattle.jsonc_words.specs.declared.call.Indent.TheVariants as indent
+use Rattle.jsonc_words.specs.declared.call.LineEnd.{LineEnd}
+use Rattle.jsonc_words.specs.declared.call.LineEnd.TheVariants as end
+use Rattle.jsonc_words.specs.declared.call.TrailingCommas.{TrailingCommas}
+use Rattle.jsonc_words.specs.declared.call.TrailingCommas.TheVariants as commas
 use Rattle.jsonc_words.specs.declared.name.CommandName.{CommandName}
 use Rattle.jsonc_words.specs.declared.name.CommandName.TheVariants as name
 use Rattle.jsonc_words.specs.Commands.{name_of}
@@ -53,6 +59,36 @@ abbrev pub IsFormat : Found → Format → Type 0
 IsFormat found format.Json = IsWord found (codes "format") (codes "json")
 IsFormat found format.Text = IsWord found (codes "format") (codes "json") → ⊥
 
+-- the level of indent that `--indent` asks for: a tab, or as many spaces as its digit says
+abbrev pub IsIndent : Found → Option Indent → Type 0
+IsIndent found (Some indent.Tab) = IsWord found (codes "indent") (codes "tab")
+IsIndent found (Some (indent.Spaces n)) = (n ≤ 8) × IsWord found (codes "indent") ((0x30 + n) ∷ [])
+IsIndent found None =
+    (IsWord found (codes "indent") (codes "0") → ⊥)
+    × (IsWord found (codes "indent") (codes "1") → ⊥)
+    × (IsWord found (codes "indent") (codes "2") → ⊥)
+    × (IsWord found (codes "indent") (codes "3") → ⊥)
+    × (IsWord found (codes "indent") (codes "4") → ⊥)
+    × (IsWord found (codes "indent") (codes "5") → ⊥)
+    × (IsWord found (codes "indent") (codes "6") → ⊥)
+    × (IsWord found (codes "indent") (codes "7") → ⊥)
+    × (IsWord found (codes "indent") (codes "8") → ⊥)
+    × (IsWord found (codes "indent") (codes "tab") → ⊥)
+
+-- the end of lines that `--line-end` asks for
+abbrev pub IsLineEnd : Found → Option LineEnd → Type 0
+IsLineEnd found (Some end.Lf) = IsWord found (codes "line-end") (codes "lf")
+IsLineEnd found (Some end.CrLf) = IsWord found (codes "line-end") (codes "crlf")
+IsLineEnd found None = (IsWord found (codes "line-end") (codes "lf") → ⊥)
+    × (IsWord found (codes "line-end") (codes "crlf") → ⊥)
+
+-- what `--trailing-commas` asks for
+abbrev pub IsTrailingCommas : Found → Option TrailingCommas → Type 0
+IsTrailingCommas found (Some commas.Never) = IsWord found (codes "trailing-commas") (codes "never")
+IsTrailingCommas found (Some commas.Multiline) = IsWord found (codes "trailing-commas") (codes "multiline")
+IsTrailingCommas found None = (IsWord found (codes "trailing-commas") (codes "never") → ⊥)
+    × (IsWord found (codes "trailing-commas") (codes "multiline") → ⊥)
+
 abbrev pub IsDialect : Found → Dialect → Type 0
 IsDialect found dialect.Json = IsWord found (codes "dialect") (codes "json")
 IsDialect found dialect.Jsonc = IsWord found (codes "dialect") (codes "jsonc")
@@ -69,7 +105,7 @@ pub record IsBound (found : Found) (most : Option ℕ) : Type 0 where
 
 -- the arguments and options of a command are those that `clap` found
 abbrev pub IsCommand : Found → Command → Type 0
-IsCommand found (command.Check format) = IsFormat found format
+IsCommand found (command.Check format all) = IsFormat found format × IsFlag found (codes "all") all
 IsCommand found command.Print = Unit {0}
 IsCommand found (command.Set name value) =
     IsWord found (codes "name") name.now × IsValue found value
@@ -95,6 +131,10 @@ IsCommand found (command.Merge patch) = IsText found (codes "patch") patch
 IsCommand found command.Json = Unit {0}
 IsCommand found (command.Lint format commas) =
     IsFormat found format × IsFlag found (codes "no-trailing-commas") commas
+IsCommand found (command.Format indent line_end expand commas check diff) = IsIndent found indent
+    × IsLineEnd found line_end × IsFlag found (codes "expand") expand × IsTrailingCommas found commas
+    × IsFlag found (codes "check") check × IsFlag found (codes "diff") diff
+IsCommand found command.Mend = Unit {0}
 
 -- the command of this name, as `clap` found it
 pub record IsCommandOf (found : Found) (name : CommandName) (command : Command) : Type 0 where

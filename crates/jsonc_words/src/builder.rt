@@ -1,7 +1,8 @@
 //! The commands as `clap` knows them: arguments, options, help and examples.
 use crate::name::CommandName;
 use crate::options::{
-    flag, format, most_bytes, place_to_sort, required, source, text, value, with_common_options,
+    flag, format, most_bytes, required, source, text, value, with_common_options,
+    with_format_options, with_sort_options,
 };
 use clap::Command;
 use std::alloc::{AllocError, Global};
@@ -24,6 +25,8 @@ fn about<'a>(name: CommandName) -> &'a str {
         CommandName::Merge => "Applies a merge patch (RFC 7396)",
         CommandName::Json => "Writes the document as JSON (RFC 8259)",
         CommandName::Lint => "Finds faults, names that occur twice, and TODO comments",
+        CommandName::Format => "Writes the document with other blanks between its parts",
+        CommandName::Mend => "Writes the document that small changes make of a text with faults",
     }
 }
 
@@ -57,6 +60,8 @@ fn usage<'a>(name: CommandName) -> &'a str {
         }
         CommandName::Json => "jsonc json [OPTIONS] [FILE]...",
         CommandName::Lint => "jsonc lint [OPTIONS] [FILE]...",
+        CommandName::Format => "jsonc format [OPTIONS] [FILE]...",
+        CommandName::Mend => "jsonc mend [OPTIONS] [FILE]...",
     }
 }
 
@@ -81,6 +86,8 @@ fn example<'a>(name: CommandName) -> &'a str {
             "Example:\n  jsonc merge '{\"editor\": {\"fontSize\": 16}}' -i settings.json",
         CommandName::Json => "Example:\n  jsonc json tsconfig.json | jq .compilerOptions",
         CommandName::Lint => "Example:\n  jsonc lint --no-trailing-commas tsconfig.json",
+        CommandName::Format => "Example:\n  jsonc format --indent 2 -i */settings.json",
+        CommandName::Mend => "Example:\n  jsonc mend -i settings.json",
     }
 }
 
@@ -146,15 +153,11 @@ fn with_own_options<'a>(
         CommandName::Get => {
             command.arg(flag(alloc, "raw", "Writes a string decoded, without quotes").short('r'))
         }
-        CommandName::Sort => command
-            .arg(place_to_sort(alloc))?
-            .arg(flag(alloc, "recursive", "Sorts the objects inside too"))?
-            .arg(flag(
-                alloc,
-                "keep-headers",
-                "Keeps comments at the head of the object",
-            )),
-        CommandName::Check => command.arg(format(alloc)),
+        CommandName::Sort => with_sort_options(alloc, command),
+        CommandName::Format => with_format_options(alloc, command),
+        CommandName::Check => command
+            .arg(flag(alloc, "all", "Tells each fault, and not the first alone"))?
+            .arg(format(alloc)),
         CommandName::Lint => command
             .arg(flag(alloc, "no-trailing-commas", "Finds trailing commas too"))?
             .arg(format(alloc)),

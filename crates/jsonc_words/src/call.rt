@@ -1,6 +1,6 @@
 //! What the words ask for.
 ghost use Rattle.std.specs.Prelude.{◌≡◌};
-ghost use Rattle.jsonc_words.specs.Commands.{name_of, text_in};
+ghost use Rattle.jsonc_words.specs.Commands.{name_of, sets_commas, text_in, writes_document};
 ghost use Rattle.jsonc_words.specs.Inputs.{IsInput, is_standard, reads_standard};
 
 use crate::name::CommandName;
@@ -77,12 +77,38 @@ pub enum Format {
     Json,
 }
 
+/// One level of indent.
+#[derive(Clone, Copy, Debug)]
+pub enum Indent {
+    /// So many spaces, eight at most.
+    Spaces(u8),
+    Tab,
+}
+
+/// What ends a line.
+#[derive(Clone, Copy, Debug)]
+pub enum LineEnd {
+    Lf,
+    CrLf,
+}
+
+/// What becomes of the commas behind last entries.
+#[derive(Clone, Copy, Debug)]
+pub enum TrailingCommas {
+    /// None stays.
+    Never,
+    /// One stands in each array and object on several lines.
+    Multiline,
+}
+
 /// A command with its arguments and its own options. A place is a word as it is given: a JSON Pointer, or an array of
 /// names.
 #[derive(Clone, Copy, Debug)]
 pub enum Command<'a> {
     Check {
         format: Format,
+        /// Whether all faults are told, and not the first alone.
+        finds_all: bool,
     },
     Print,
     Set {
@@ -134,6 +160,17 @@ pub enum Command<'a> {
         format: Format,
         no_trailing_commas: bool,
     },
+    Format {
+        indent: Option<Indent>,
+        line_end: Option<LineEnd>,
+        expand: bool,
+        trailing_commas: Option<TrailingCommas>,
+        /// Whether it is told which files would change, and no document is written.
+        only_checks: bool,
+        /// Whether what would change is written as a diff, and no document.
+        shows_diff: bool,
+    },
+    Mend,
 }
 
 impl<'a> Command<'a> {
@@ -157,7 +194,36 @@ impl<'a> Command<'a> {
             Command::Merge { .. } => CommandName::Merge,
             Command::Json => CommandName::Json,
             Command::Lint { .. } => CommandName::Lint,
+            Command::Format { .. } => CommandName::Format,
+            Command::Mend => CommandName::Mend,
         }
+    }
+
+    /// Whether the command writes the document, so that `--in-place` may be given.
+    pub fn writes_document(self) -> bool
+        ensures { result ≡ writes_document self.entry }
+    {
+        match self {
+            Command::Format {
+                only_checks,
+                shows_diff,
+                ..
+            } => !only_checks && !shows_diff,
+            _ => self.name().works_in_place(),
+        }
+    }
+
+    /// Whether the command sets trailing commas.
+    pub fn sets_commas(self) -> bool
+        ensures { result ≡ sets_commas self.entry }
+    {
+        matches!(
+            self,
+            Command::Format {
+                trailing_commas: Some(TrailingCommas::Multiline),
+                ..
+            }
+        )
     }
 
     /// The text that the command takes, which `-f` may give.

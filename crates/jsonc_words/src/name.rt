@@ -20,11 +20,13 @@ pub enum CommandName {
     Merge,
     Json,
     Lint,
+    Format,
+    Mend,
 }
 
 impl CommandName {
     /// All of them, in the order of the help.
-    pub const ALL: [CommandName; 15] = [
+    pub const ALL: [CommandName; 17] = [
         CommandName::Check,
         CommandName::Print,
         CommandName::Get,
@@ -36,10 +38,12 @@ impl CommandName {
         CommandName::Append,
         CommandName::Remove,
         CommandName::Sort,
+        CommandName::Format,
         CommandName::Patch,
         CommandName::Merge,
         CommandName::Json,
         CommandName::Lint,
+        CommandName::Mend,
     ];
 
     /// The command whose name this word is.
@@ -62,6 +66,8 @@ impl CommandName {
             "merge" => Some(CommandName::Merge),
             "json" => Some(CommandName::Json),
             "lint" => Some(CommandName::Lint),
+            "format" => Some(CommandName::Format),
+            "mend" => Some(CommandName::Mend),
             _ => None,
         }
     }
@@ -86,11 +92,13 @@ impl CommandName {
             CommandName::Merge => "merge",
             CommandName::Json => "json",
             CommandName::Lint => "lint",
+            CommandName::Format => "format",
+            CommandName::Mend => "mend",
         }
     }
 
-    /// Whether the command writes the document, so that `--in-place` may be given: all but `check`, `get`, `json`
-    /// and `lint`.
+    /// Whether the command writes the document, unless an option asks for a check or a diff: all but `check`, `get`,
+    /// `json` and `lint`.
     pub fn works_in_place(self) -> bool
         ensures { result ≡ works_in_place self }
     {

@@ -6,6 +6,12 @@ static DIALECTS: [&str; 4] = ["json", "jsonc", "json5", "all"];
 
 static FORMATS: [&str; 2] = ["text", "json"];
 
+static INDENTS: [&str; 10] = ["0", "1", "2", "3", "4", "5", "6", "7", "8", "tab"];
+
+static LINE_ENDS: [&str; 2] = ["lf", "crlf"];
+
+static TRAILING_COMMAS: [&str; 2] = ["never", "multiline"];
+
 /// An argument that has to be given.
 pub(crate) fn required<'a>(alloc: Global, id: &'a str, shown: &'a str, help: &'a str) -> Arg<'a> {
     Arg::new(alloc, id)
@@ -60,11 +66,57 @@ pub(crate) fn most_bytes<'a>(alloc: Global) -> Arg<'a> {
 }
 
 /// The option `--at` of `sort`.
-pub(crate) fn place_to_sort<'a>(alloc: Global) -> Arg<'a> {
+fn place_to_sort<'a>(alloc: Global) -> Arg<'a> {
     Arg::new(alloc, "at")
         .long("at")
         .value_name("PLACE")
         .help("Sorts the object at PLACE")
+}
+
+/// The command `sort` with its options.
+pub(crate) fn with_sort_options<'a>(
+    alloc: Global,
+    command: Command<'a>,
+) -> Result<Command<'a>, AllocError> {
+    command
+        .arg(place_to_sort(alloc))?
+        .arg(flag(alloc, "recursive", "Sorts the objects inside too"))?
+        .arg(flag(
+            alloc,
+            "keep-headers",
+            "Keeps comments at the head of the object",
+        ))
+}
+
+/// The command `format` with its options.
+pub(crate) fn with_format_options<'a>(
+    alloc: Global,
+    command: Command<'a>,
+) -> Result<Command<'a>, AllocError> {
+    let indent = Arg::new(alloc, "indent")
+        .long("indent")
+        .value_name("N|tab")
+        .value_parser(INDENTS.as_slice())
+        .help("One level of indent, instead of the document's");
+    let line_end = Arg::new(alloc, "line-end")
+        .long("line-end")
+        .value_name("END")
+        .value_parser(LINE_ENDS.as_slice())
+        .help("What ends a line, instead of the document's");
+    let trailing_commas = Arg::new(alloc, "trailing-commas")
+        .long("trailing-commas")
+        .value_name("WHERE")
+        .value_parser(TRAILING_COMMAS.as_slice())
+        .help("Removes trailing commas, or sets one in what is on several lines");
+    let check = "Names each FILE that would change, and writes no document";
+    let diff = "Writes what would change, as a unified diff";
+    command
+        .arg(indent)?
+        .arg(line_end)?
+        .arg(flag(alloc, "expand", "Puts each entry on a line of its own"))?
+        .arg(trailing_commas)?
+        .arg(flag(alloc, "check", check))?
+        .arg(flag(alloc, "diff", diff))
 }
 
 /// The option `--format`.

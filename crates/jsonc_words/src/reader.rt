@@ -2,10 +2,12 @@
 ghost use Rattle.std.specs.Prelude.{◌≡◌, ◌++◌, ℕ, List, map, IfOk, IfSome, OnOk, option_map};
 ghost use Rattle.clap.specs.Matches.{found_of};
 ghost use Rattle.jsonc_words.specs.Inputs.{AreInputs};
-ghost use Rattle.jsonc_words.specs.Reading.{IsBound, IsCommandOf, IsDialect, IsFlag, IsFormat, IsRead, IsText, IsValue};
+ghost use Rattle.jsonc_words.specs.Reading.{IsBound, IsCommandOf, IsDialect, IsFlag, IsFormat, IsIndent, IsLineEnd, IsRead, IsText, IsTrailingCommas, IsValue};
 ghost use Rattle.jsonc_words.specs.Reading.{file_words, moved_word, option_list, text_id};
 
-use crate::call::{Call, Command, Dialect, Format, Input, Text, Value};
+use crate::call::{
+    Call, Command, Dialect, Format, Indent, Input, LineEnd, Text, TrailingCommas, Value,
+};
 use crate::name::CommandName;
 use clap::ArgMatches;
 use std::alloc::{AllocError, Global};
@@ -68,6 +70,55 @@ fn most_bytes_from(matches: &ArgMatches<'_>) -> Option<u64>
     ensures { IsBound (found_of matches.now) result }
 {
     matches.get_one::<u64>("max-bytes")
+}
+
+/// The level of indent that `--indent` asks for.
+fn indent_from(matches: &ArgMatches<'_>) -> Option<Indent>
+    ensures { IsIndent (found_of matches.now) result }
+{
+    match matches.get_str("indent") {
+        Some("0") => Some(Indent::Spaces(0)),
+        Some("1") => Some(Indent::Spaces(1)),
+        Some("2") => Some(Indent::Spaces(2)),
+        Some("3") => Some(Indent::Spaces(3)),
+        Some("4") => Some(Indent::Spaces(4)),
+        Some("5") => Some(Indent::Spaces(5)),
+        Some("6") => Some(Indent::Spaces(6)),
+        Some("7") => Some(Indent::Spaces(7)),
+        Some("8") => Some(Indent::Spaces(8)),
+        Some("tab") => Some(Indent::Tab),
+        _ => None,
+    }
+}
+
+/// The end of lines that `--line-end` asks for.
+fn line_end_from(matches: &ArgMatches<'_>) -> Option<LineEnd>
+    ensures { IsLineEnd (found_of matches.now) result }
+{
+    match matches.get_str("line-end") {
+        Some("lf") => Some(LineEnd::Lf),
+        Some("crlf") => Some(LineEnd::CrLf),
+        _ => None,
+    }
+}
+
+/// What `--trailing-commas` asks for.
+fn trailing_commas_from(matches: &ArgMatches<'_>) -> Option<TrailingCommas>
+    ensures { IsTrailingCommas (found_of matches.now) result }
+{
+    match matches.get_str("trailing-commas") {
+        Some("never") => Some(TrailingCommas::Never),
+        Some("multiline") => Some(TrailingCommas::Multiline),
+        _ => None,
+    }
+}
+
+fn check_from<'a>(matches: &ArgMatches<'a>) -> Command<'a>
+    ensures { IsCommandOf (found_of matches.now) CommandName.Check result }
+{
+    let format = format_from(matches);
+    let finds_all = flag_from(matches, "all");
+    Command::Check { format, finds_all }
 }
 
 fn set_from<'a>(matches: &ArgMatches<'a>) -> Option<Command<'a>>
@@ -211,15 +262,31 @@ fn lint_from<'a>(matches: &ArgMatches<'a>) -> Command<'a>
     }
 }
 
+fn style_from<'a>(matches: &ArgMatches<'a>) -> Command<'a>
+    ensures { IsCommandOf (found_of matches.now) CommandName.Format result }
+{
+    let indent = indent_from(matches);
+    let line_end = line_end_from(matches);
+    let expand = flag_from(matches, "expand");
+    let trailing_commas = trailing_commas_from(matches);
+    let only_checks = flag_from(matches, "check");
+    let shows_diff = flag_from(matches, "diff");
+    Command::Format {
+        indent,
+        line_end,
+        expand,
+        trailing_commas,
+        only_checks,
+        shows_diff,
+    }
+}
+
 /// The command with its arguments and options, where each argument that it needs was found.
 fn command_from<'a>(matches: &ArgMatches<'a>, name: CommandName) -> Option<Command<'a>>
     ensures { IfSome result (IsCommandOf (found_of matches.now) name) }
 {
     match name {
-        CommandName::Check => {
-            let format = format_from(matches);
-            Some(Command::Check { format })
-        }
+        CommandName::Check => Some(check_from(matches)),
         CommandName::Print => Some(Command::Print),
         CommandName::Set => set_from(matches),
         CommandName::Append => append_from(matches),
@@ -234,6 +301,8 @@ fn command_from<'a>(matches: &ArgMatches<'a>, name: CommandName) -> Option<Comma
         CommandName::Merge => merge_from(matches),
         CommandName::Json => Some(Command::Json),
         CommandName::Lint => Some(lint_from(matches)),
+        CommandName::Format => Some(style_from(matches)),
+        CommandName::Mend => Some(Command::Mend),
     }
 }
 

@@ -1,8 +1,8 @@
 //! What words may not stand together, beyond what `clap` knows.
 ghost use Rattle.std.specs.Prelude.{◌≡◌, MatchOption};
-ghost use Rattle.jsonc_words.specs.Calls.{Breaks, IsAllowed, has_standard, takes_standard};
+ghost use Rattle.jsonc_words.specs.Calls.{Breaks, IsAllowed, forbids_commas, has_standard, takes_standard};
 
-use crate::call::{Call, Input};
+use crate::call::{Call, Dialect, Input};
 
 /// What is wrong with a call.
 #[derive(Clone, Copy)]
@@ -19,6 +19,8 @@ pub(crate) enum Misuse {
     NoFileBeside,
     /// `-f -` with standard input as a file.
     StandardTwice,
+    /// Trailing commas are to be set in documents that may have none.
+    CommasForbidden,
 }
 
 impl Misuse {
@@ -31,6 +33,7 @@ impl Misuse {
             Misuse::SeveralFiles => "several FILEs need --in-place",
             Misuse::NoFileBeside => "with '-f -' a FILE has to be named",
             Misuse::StandardTwice => "standard input cannot be read by '-f -' and as the FILE '-'",
+            Misuse::CommasForbidden => "--dialect json has no trailing commas",
         }
     }
 }
@@ -52,13 +55,23 @@ fn takes_standard(call: &Call<'_>) -> bool
     }
 }
 
-/// What is wrong with where a call reads and writes, if anything is.
+/// Whether trailing commas are to be set in documents of JSON, which has none.
+fn forbids_commas(call: &Call<'_>) -> bool
+    ensures { result ≡ forbids_commas call.now }
+{
+    call.command.sets_commas() && matches!(call.dialect, Dialect::Json)
+}
+
+/// What is wrong with where a call reads and writes, or with its options, if anything is.
 pub(crate) fn misuse_of(call: &Call<'_>) -> Option<Misuse>
     ensures { MatchOption result (IsAllowed call.now) (λ misuse. Breaks misuse call.now) }
 {
-    let writes = call.command.name().works_in_place();
+    let writes = call.command.writes_document();
     let count = call.files.len();
     let has_standard = has_standard(&call.files);
+    if forbids_commas(call) {
+        return Some(Misuse::CommasForbidden);
+    }
     if call.in_place {
         if !writes {
             return Some(Misuse::NothingToChange);

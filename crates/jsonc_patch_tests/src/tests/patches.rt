@@ -1,8 +1,8 @@
 //! What runs with patches write, with ample memory and with each request for it refused in turn.
 
 use crate::tests::patch_rows::{PATCHED, STANDARD};
-use crate::tests::refusals::{is_of_memory, outcome_of};
 use crate::tests::rows::Row;
+use engine_runs::{is_of_memory, outcome_of};
 use failing_alloc::in_turn::answers_in_turn;
 use failing_alloc::outcome::Outcome;
 use jsonc_engine::command::Command;
@@ -10,20 +10,12 @@ use jsonc_engine::engine::run_on;
 use std::alloc::Allocator;
 use std::test::Fail;
 
-/// What came of the run of a number.
-fn patched_at<A: Allocator + Copy>(heap: A, number: usize) -> Outcome {
-    match PATCHED.get(number) {
-        Some(row) => outcome_of(heap, row),
-        None => Outcome::Other,
-    }
-}
-
 #[test]
 fn each_patch_writes_the_text_of_its_row(rt: HostRuntime) -> Result<(), Fail> {
-    for number in 0..PATCHED.len() {
+    for (words, input, output) in &PATCHED {
         assert!(rt;
-            answers_in_turn(rt.alloc(), |heap| patched_at(heap, number)),
-            "run {number}"
+            answers_in_turn(rt.alloc(), |heap| outcome_of(heap, words, input, output)),
+            "{words:?} {input:?}"
         );
     }
     Ok(())

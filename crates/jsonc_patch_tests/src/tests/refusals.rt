@@ -1,62 +1,23 @@
 //! Each request for memory of a run, refused in turn.
 
-use crate::tests::rows::{Row, TOLD, WRITTEN};
-use crate::tests::words::run_by;
+use crate::tests::rows::{TOLD, WRITTEN};
+use engine_runs::{is_of_memory, outcome_of, run_by};
 use failing_alloc::Refusing;
 use failing_alloc::awaited::{Awaited, prints};
 use failing_alloc::in_turn::{answers_in_turn, is_refused_in_turn};
 use failing_alloc::outcome::Outcome;
 use jsonc_engine::calls::{FromReader, ToWriter};
-use jsonc_engine::fault::Fault;
 use jsonc_engine::json::{JsonError, to_json};
 use jsonc_parser::ParseOptions;
-use jsonc_parser::cst::EditError;
-use jsonc_parser::errors::ParseErrorKind;
-use jsonc_parser::patch::{MergePatchError, PatchError};
-use std::alloc::{Allocator, Global};
+use std::alloc::Global;
 use std::test::Fail;
-
-/// Whether a fault tells of memory alone.
-pub fn is_of_memory<A: Allocator>(fault: &Fault<A>) -> bool {
-    match fault {
-        Fault::Edit(EditError::OutOfMemory) => prints(fault, "jsonc: Out of memory"),
-        Fault::Input(error) => *error.kind() == ParseErrorKind::OutOfMemory,
-        Fault::Patch(PatchError::Parse(error)) => *error.kind() == ParseErrorKind::OutOfMemory,
-        Fault::MergePatch(MergePatchError::Parse(error)) => *error.kind()
-            == ParseErrorKind::OutOfMemory,
-        _ => false,
-    }
-}
-
-/// What came of a run that can succeed.
-pub fn outcome_of<A: Allocator + Copy>(heap: A, row: &Row) -> Outcome {
-    let (words, input, output) = *row;
-    let mut source = FromReader::new(input.as_bytes());
-    let mut sink = ToWriter::new(Awaited {
-        rest: output.as_bytes(),
-    });
-    match run_by(heap, words, &mut source, &mut sink) {
-        Ok(()) => Outcome::of(sink.writer.rest.is_empty()),
-        Err(fault) if is_of_memory(&fault) && sink.writer.rest.len() == output.len() =>
-            Outcome::Wanted,
-        Err(_) => Outcome::Other,
-    }
-}
-
-/// What came of the run of a number.
-fn outcome_at<A: Allocator + Copy>(heap: A, number: usize) -> Outcome {
-    match WRITTEN.get(number) {
-        Some(row) => outcome_of(heap, row),
-        None => Outcome::Other,
-    }
-}
 
 #[test]
 fn each_request_is_refused_in_turn(rt: HostRuntime) -> Result<(), Fail> {
-    for number in 0..WRITTEN.len() {
+    for (words, input, output) in &WRITTEN {
         assert!(rt;
-            is_refused_in_turn(rt.alloc(), |heap| outcome_at(heap, number)),
-            "run {number}"
+            is_refused_in_turn(rt.alloc(), |heap| outcome_of(heap, words, input, output)),
+            "{words:?} {input:?}"
         );
     }
     Ok(())

@@ -1,7 +1,7 @@
 //! What runs write, and what they tell.
 
 use crate::tests::rows::{TOLD, WRITTEN};
-use crate::tests::words::run_by;
+use engine_runs::run_by;
 use failing_alloc::awaited::{Awaited, prints};
 use jsonc_engine::calls::{FromReader, ToWriter};
 use jsonc_engine::command::Command;

@@ -1,11 +1,6 @@
 //! A reader and a writer of a few bytes a call, one of whose calls fails.
 
-use crate::tests::words::run_by;
-use failing_alloc::awaited::prints;
-use failing_alloc::streams::{Calls, Reader, Writer};
-use jsonc_engine::calls::{FromReader, ToWriter};
-use jsonc_engine::fault::Fault;
-use std::alloc::Global;
+use engine_runs::run;
 use std::test::Fail;
 
 /// The words, the input, what is written, how many reads bring the input, the one that finds its end among them, and how
@@ -35,54 +30,13 @@ static CASES: [(&[&str], &[u8], &[u8], usize, usize); 3] = [
     ),
 ];
 
-/// What came of a run, and what was called in it.
-#[derive(Drop)]
-struct Course {
-    ended: Result<(), Fault<Global>>,
-    written: Vec<u8>,
-    reads: Calls,
-    /// How many reads the source has seen give nothing.
-    empty_reads: u64,
-    writes: Calls,
-}
-
-/// A run with so many reads and so many writes and flushes that succeed.
-fn run(alloc: Global, words: &[&str], input: &'static [u8], reads: usize, writes: usize) -> Course {
-    let mut source = FromReader::new(Reader {
-        rest: input,
-        calls: Calls::new(reads),
-    });
-    let mut sink = ToWriter::new(Writer {
-        bytes: Vec::new(alloc),
-        calls: Calls::new(writes),
-    });
-    let ended = run_by(alloc, words, &mut source, &mut sink);
-    let FromReader { reader, empty, .. } = source;
-    let ToWriter { writer, .. } = sink;
-    Course {
-        ended,
-        written: writer.bytes,
-        reads: reader.calls,
-        empty_reads: empty,
-        writes: writer.calls,
-    }
-}
-
-/// Whether a run failed with the status 1 and this line.
-fn is_told(run: &Course, line: &str) -> bool {
-    match &run.ended {
-        Ok(()) => false,
-        Err(fault) => fault.status() == 1 && prints(fault, line),
-    }
-}
-
 #[test]
 fn a_failed_read_is_told_and_nothing_written(rt: HostRuntime) -> Result<(), Fail> {
     for (words, input, _output, count, _writes) in &CASES {
         for reads in 0..*count {
             let run = run(rt.alloc(), words, input, reads, 100);
             assert!(rt;
-                is_told(&run, "jsonc: read failed"),
+                run.is_told("jsonc: read failed"),
                 "{words:?} after {reads} reads"
             );
             assert!(rt; run.reads.failed == 1 && run.empty_reads == 0);
@@ -98,7 +52,7 @@ fn a_failed_write_leaves_a_beginning(rt: HostRuntime) -> Result<(), Fail> {
         for writes in 0..*count {
             let run = run(rt.alloc(), words, input, 100, writes);
             assert!(rt;
-                is_told(&run, "jsonc: write failed"),
+                run.is_told("jsonc: write failed"),
                 "{words:?} after {writes} writes"
             );
             assert!(rt; output.starts_with(run.written.as_slice()));

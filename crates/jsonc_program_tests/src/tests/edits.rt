@@ -5,21 +5,15 @@ use failing_alloc::awaited::prints;
 use failing_alloc::in_turn::answers_in_turn;
 use failing_alloc::outcome::Outcome;
 use jsonc_engine::command::Place;
-use jsonc_engine::fault::Fault;
 use jsonc_parser::ParseOptions;
-use jsonc_parser::cst::EditError;
-use jsonc_parser::errors::ParseErrorKind;
 use jsonc_program::edit::{Edit, EditFault, Target, edited};
 use std::alloc::Allocator;
 use std::test::Fail;
 
 /// Whether a fault tells of memory alone.
-fn is_of_memory<A: Allocator>(fault: &EditFault<A>) -> bool {
+pub fn is_of_memory<A: Allocator>(fault: &EditFault<A>) -> bool {
     match fault {
-        EditFault::Engine(Fault::Edit(EditError::OutOfMemory)) => true,
-        EditFault::Engine(Fault::Input(error)) => *error.kind() == ParseErrorKind::OutOfMemory,
-        EditFault::Engine(Fault::Path(error)) => *error.kind() == ParseErrorKind::OutOfMemory,
-        EditFault::Engine(Fault::Argument(error)) => *error.kind() == ParseErrorKind::OutOfMemory,
+        EditFault::Engine(fault) => engine_runs::is_of_memory(fault),
         _ => false,
     }
 }

@@ -1,7 +1,7 @@
 use Rattle.std.proofs.Common.{subst}
 use Rattle.jsonc_cst.specs.Document.{nodes_of}
 use Rattle.jsonc_engine.specs.Change.{IsChangeFor}
-use Rattle.jsonc_engine.proofs.Changes.{append_makes, append_told, drop_makes, drop_told, ok_so, put_makes, put_told, remove_makes, remove_told, set_makes, set_told, sort_makes, sort_told, stay_makes}
+use Rattle.jsonc_engine.proofs.Changes.{append_makes, append_told, drop_makes, drop_told, ok_so, put_makes, put_told, remove_makes, remove_told, set_makes, set_told, sort_makes, sort_told}
 use Rattle.jsonc_engine.proofs.edit.make.Goals as goal
 
 pub returns-in-Set-clause-made : goal.returns-in-Set-clause-made
@@ -57,6 +57,3 @@ returns-in-Drop-clause-made g c = λ o request is.
 pub returns-in-Drop-clause-error : goal.returns-in-Drop-clause-error
 returns-in-Drop-clause-error g c = λ o request is sound.
     drop_told o request (nodes_of c.args.document.now) c.in-Drop.names (subst (IsChangeFor request) c.in-Drop.is is) c.deref-in-Drop.result.now c.deref-in-Drop.ensures.value c.drop_setting.result (c.drop_setting.ensures.error o sound)
-
-pub returns-in-Stay-clause-made : goal.returns-in-Stay-clause-made
-returns-in-Stay-clause-made g c = λ o request is. stay_makes o request (nodes_of c.args.document.now) (subst (IsChangeFor request) c.in-Stay.is is)

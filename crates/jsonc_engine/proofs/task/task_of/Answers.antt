@@ -8,19 +8,19 @@ use Rattle.jsonc_engine.proofs.Arguments.{append_fault, append_task, check_task,
 use Rattle.jsonc_engine.proofs.Changes.{err_by}
 use Rattle.jsonc_engine.proofs.task.task_of.Goals as goal
 
-pub returns-in_err-value_of-in-Set-clause-refused : goal.returns-in_err-value_of-in-Set-clause-refused
-returns-in_err-value_of-in-Set-clause-refused g c =
-    let fault = c.in_err-value_of-in-Set.field-0.0 in
+pub returns-in_err-argument_of-in-Set-clause-refused : goal.returns-in_err-argument_of-in-Set-clause-refused
+returns-in_err-argument_of-in-Set-clause-refused g c =
+    let fault = c.in_err-argument_of-in-Set.field-0.0 in
     let told : IsErrAnd c.from_residual.result (λ told. told ≡ fault) = search rules in
     err_by (IsFaultOfArgument (parse_options c.args.options.now) (request_of c.args.command)) fault c.from_residual.result told
-    (set_fault (parse_options c.args.options.now) c.args.command fault c.in-Set.name c.in-Set.json c.in-Set.is c.in_err-value_of-in-Set.ensures.refused)
+    (set_fault (parse_options c.args.options.now) c.args.command fault c.in-Set.name c.in-Set.json c.in-Set.is c.in_err-argument_of-in-Set.ensures.refused)
 
-pub returns-in_err-value_of-in-Append-clause-refused : goal.returns-in_err-value_of-in-Append-clause-refused
-returns-in_err-value_of-in-Append-clause-refused g c =
-    let fault = c.in_err-value_of-in-Append.field-0.0 in
-    let told : IsErrAnd c.from_residual-in_err-value_of-in-Append.result (λ told. told ≡ fault) = search rules in
-    err_by (IsFaultOfArgument (parse_options c.args.options.now) (request_of c.args.command)) fault c.from_residual-in_err-value_of-in-Append.result told
-    (append_fault (parse_options c.args.options.now) c.args.command fault c.in-Append.json c.in-Append.is c.in_err-value_of-in-Append.ensures.refused)
+pub returns-in_err-argument_of-in-Append-clause-refused : goal.returns-in_err-argument_of-in-Append-clause-refused
+returns-in_err-argument_of-in-Append-clause-refused g c =
+    let fault = c.in_err-argument_of-in-Append.field-0.0 in
+    let told : IsErrAnd c.from_residual-in_err-argument_of-in-Append.result (λ told. told ≡ fault) = search rules in
+    err_by (IsFaultOfArgument (parse_options c.args.options.now) (request_of c.args.command)) fault c.from_residual-in_err-argument_of-in-Append.result told
+    (append_fault (parse_options c.args.options.now) c.args.command fault c.in-Append.json c.in-Append.is c.in_err-argument_of-in-Append.ensures.refused)
 
 pub returns-in_err-read_path-in-Drop-clause-refused : goal.returns-in_err-read_path-in-Drop-clause-refused
 returns-in_err-read_path-in-Drop-clause-refused g c =
@@ -37,16 +37,16 @@ returns-in_err-patch-in-Patch-clause-refused g c =
     (patch_fault (parse_options c.args.options.now) c.args.command fault c.in-Patch.text c.in-Patch.most c.in-Patch.is (c.in_err-patch-in-Patch.ensures.refused c.in-Patch.most))
 
 pub returns-in-Check-clause-task : goal.returns-in-Check-clause-task
-returns-in-Check-clause-task g c = subst (IsTaskFor (parse_options c.args.options.now) (request_of c.args.command)) (sym c.making.ensures) (check_task (parse_options c.args.options.now) c.args.command c.in-Check.is)
+returns-in-Check-clause-task g c = check_task (parse_options c.args.options.now) c.args.command c.in-Check.is
 
 pub returns-in-Print-clause-task : goal.returns-in-Print-clause-task
-returns-in-Print-clause-task g c = subst (IsTaskFor (parse_options c.args.options.now) (request_of c.args.command)) (sym c.making-in-Print.ensures) (print_task (parse_options c.args.options.now) c.args.command c.in-Print.is)
+returns-in-Print-clause-task g c = print_task (parse_options c.args.options.now) c.args.command c.in-Print.is
 
-pub returns-in_ok-value_of-in-Set-clause-task : goal.returns-in_ok-value_of-in-Set-clause-task
-returns-in_ok-value_of-in-Set-clause-task g c = subst (IsTaskFor (parse_options c.args.options.now) (request_of c.args.command)) (sym c.making-in-Set.ensures) (set_task (parse_options c.args.options.now) c.args.command c.in-Set.name c.in-Set.json c.in_ok-value_of-in-Set.field-0 c.in-Set.is c.in_ok-value_of-in-Set.ensures.value)
+pub returns-in_ok-argument_of-in-Set-clause-task : goal.returns-in_ok-argument_of-in-Set-clause-task
+returns-in_ok-argument_of-in-Set-clause-task g c = subst (IsTaskFor (parse_options c.args.options.now) (request_of c.args.command)) (sym c.making.ensures) (set_task (parse_options c.args.options.now) c.args.command c.in-Set.name c.in-Set.json c.in_ok-argument_of-in-Set.field-0 c.in-Set.is c.in_ok-argument_of-in-Set.ensures.value)
 
-pub returns-in_ok-value_of-in-Append-clause-task : goal.returns-in_ok-value_of-in-Append-clause-task
-returns-in_ok-value_of-in-Append-clause-task g c = subst (IsTaskFor (parse_options c.args.options.now) (request_of c.args.command)) (sym c.making-in-Append.ensures) (append_task (parse_options c.args.options.now) c.args.command c.in-Append.json c.in_ok-value_of-in-Append.field-0 c.in-Append.is c.in_ok-value_of-in-Append.ensures.value)
+pub returns-in_ok-argument_of-in-Append-clause-task : goal.returns-in_ok-argument_of-in-Append-clause-task
+returns-in_ok-argument_of-in-Append-clause-task g c = subst (IsTaskFor (parse_options c.args.options.now) (request_of c.args.command)) (sym c.making-in-Append.ensures) (append_task (parse_options c.args.options.now) c.args.command c.in-Append.json c.in_ok-argument_of-in-Append.field-0 c.in-Append.is c.in_ok-argument_of-in-Append.ensures.value)
 
 pub returns-in-Remove-clause-task : goal.returns-in-Remove-clause-task
 returns-in-Remove-clause-task g c = subst (IsTaskFor (parse_options c.args.options.now) (request_of c.args.command)) (sym c.making-in-Remove.ensures) (remove_task (parse_options c.args.options.now) c.args.command c.in-Remove.name c.in-Remove.is)

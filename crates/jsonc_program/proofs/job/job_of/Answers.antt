@@ -28,5 +28,8 @@ returns-in_ok-place-in-Rename-clause-asked c = asked_by c.args.command _ c.args.
 pub returns-in_ok-place-in-Comment-clause-asked : goal.returns-in_ok-place-in-Comment-clause-asked
 returns-in_ok-place-in-Comment-clause-asked c = asked_by c.args.command _ c.args.must_exist c.args.text.now c.comment_job.result c.in-Comment.is (c.comment_job.ensures c.in-Comment.at c.in-Comment.text c.args.must_exist c.in_ok-place-in-Comment.ensures.named)
 
+pub returns-in-Format-clause-asked : goal.returns-in-Format-clause-asked
+returns-in-Format-clause-asked c = asked_by c.args.command _ c.args.must_exist c.args.text.now c.format_job.result c.in-Format.is (c.format_job.ensures c.args.must_exist c.args.text.now)
+
 pub returns-in-Patch-clause-asked : goal.returns-in-Patch-clause-asked
 returns-in-Patch-clause-asked c = asked_by c.args.command _ c.args.must_exist c.args.text.now c.patch_job.result c.in-Patch.is (c.patch_job.ensures c.in-Patch.patch c.args.must_exist)
