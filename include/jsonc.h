@@ -3,8 +3,9 @@
  * include/README.md says how to link it, and what is trusted.
  *
  * - A text is a pointer and a length. The pointer is not null, also where the length is 0: write "" and 0.
- * - Start a jsonc_text_t with JSONC_NO_TEXT, and a jsonc_fault_t with {0}.
- * - What a call hands out is one block of malloc: free it with jsonc_free. On a status other than 0 there is none.
+ * - Start a jsonc_text_t with JSONC_NO_TEXT, a jsonc_mends_t with JSONC_NO_MENDS, and a jsonc_fault_t with {0}.
+ * - What a call hands out is one block of malloc: free it with jsonc_free, and mends with jsonc_free_mends. On a status
+ *   other than 0 there is none.
  * - Each call answers a status. Texts, names, paths and JSON texts are UTF-8. A path is a JSON text, an array of names.
  * - Paths and JSON texts are read with all options on, the text with those that are given, and a patch with these too.
  * - Calls share nothing: any number of threads may make them at once.
@@ -203,6 +204,39 @@ JSONC_ASSERT(offsetof(jsonc_edit_t, index) == 56);
 JSONC_ASSERT(offsetof(jsonc_edit_t, first) == 64);
 JSONC_ASSERT(offsetof(jsonc_edit_t, second) == 65);
 
+/* A fault of a text, and the change for it. */
+typedef struct {
+  uint32_t kind; /* The number of the fault's kind. */
+  size_t fault_start; /* The byte offset of the text at which the fault begins. */
+  size_t fault_end; /* The byte offset at which it ends. */
+  size_t line; /* The line of its start, counted from 1. */
+  size_t column; /* The column of its start in characters, counted from 1. */
+  size_t start; /* The byte offset of the text at which the bytes that are replaced begin. */
+  size_t end; /* The byte offset at which they end. */
+  size_t written_start; /* The byte offset of the mended text at which what replaces them begins. */
+  size_t written_end; /* The byte offset at which it ends. */
+} jsonc_mend_t;
+JSONC_ASSERT(sizeof(jsonc_mend_t) == 72);
+JSONC_ASSERT(offsetof(jsonc_mend_t, kind) == 0);
+JSONC_ASSERT(offsetof(jsonc_mend_t, fault_start) == 8);
+JSONC_ASSERT(offsetof(jsonc_mend_t, fault_end) == 16);
+JSONC_ASSERT(offsetof(jsonc_mend_t, line) == 24);
+JSONC_ASSERT(offsetof(jsonc_mend_t, column) == 32);
+JSONC_ASSERT(offsetof(jsonc_mend_t, start) == 40);
+JSONC_ASSERT(offsetof(jsonc_mend_t, end) == 48);
+JSONC_ASSERT(offsetof(jsonc_mend_t, written_start) == 56);
+JSONC_ASSERT(offsetof(jsonc_mend_t, written_end) == 64);
+
+/* Mends, in order. */
+typedef struct {
+  const jsonc_mend_t *at;
+  size_t len;
+} jsonc_mends_t;
+JSONC_ASSERT(sizeof(jsonc_mends_t) == 16);
+
+/* (a pointer that is not null, to no mends) */
+#define JSONC_NO_MENDS {(const jsonc_mend_t *)sizeof(size_t), 0}
+
 /*
  * Checks whether a text is a document.
  *
@@ -329,6 +363,16 @@ uint32_t jsonc_merge_patch(const void *text, size_t text_len, const void *patch,
                            jsonc_text_t *out, jsonc_fault_t *fault);
 
 /*
+ * Tells every fault of a text with a change for it, and hands out the text with all changes made, which is a
+ * document.
+ *
+ * 0: it is done. 1: an allocation failed. 3: the text is not UTF-8. The mends are in order, and there are none
+ * where the text is a document within the nesting. The first one's fault is the one that `jsonc_check` tells.
+ * What a mend writes stands in the mended text. The list is one block of `malloc`, as the text is.
+ */
+uint32_t jsonc_mend(const void *text, size_t text_len, uint32_t options, jsonc_text_t *out, jsonc_mends_t *mends);
+
+/*
  * Writes the text that the document prints into a buffer, as `jsonc_print` hands it out.
  *
  * 17: the buffer is too small. `len` tells how long the text is then, too.
@@ -430,6 +474,11 @@ uint32_t jsonc_merge_patch_into(const void *text, size_t text_len, const void *p
 /* Frees a text that was handed out. */
 static inline void jsonc_free(jsonc_text_t text) {
   if (text.len) free((void *)text.at);
+}
+
+/* Frees mends that were handed out. */
+static inline void jsonc_free_mends(jsonc_mends_t mends) {
+  if (mends.len) free((void *)mends.at);
 }
 
 #ifdef __cplusplus

@@ -122,6 +122,37 @@ static void texts(void) {
   is(made(s, out, "{\"a\":\"c\"} // c"), "a merge patch (RFC 7396, A)");
 }
 
+/* Rows of docs/FAULTS.md. */
+static void mends(void) {
+  const char *broken = "{\n  \"a\": 1 \"b\": [1, 2\n}";
+  jsonc_text_t out = JSONC_NO_TEXT;
+  jsonc_mends_t list = JSONC_NO_MENDS;
+  uint32_t s = jsonc_mend(B(broken), JSONC_JSON_ALONE, &out, &list);
+  is(list.len == 2, "every fault");
+  const jsonc_mend_t *comma = list.at, *bracket = list.at + 1;
+  is(comma->kind == JSONC_KIND_EXPECTED_COMMA && comma->line == 2 && comma->column == 9, "the first fault");
+  is(comma->fault_start == 10 && comma->fault_end == 10 && comma->start == 10 && comma->end == 10, "where it is");
+  is(comma->written_end == comma->written_start + 1 && out.at[comma->written_start] == ',', "what mends it");
+  is(bracket->kind == JSONC_KIND_UNEXPECTED_CLOSE_BRACE && bracket->line == 3 && bracket->start == 21, "the second");
+  is(out.at[bracket->written_start] == ']', "what mends that");
+  is(made(s, out, "{\n  \"a\": 1, \"b\": [1, 2]\n}"), "the mended text");
+  jsonc_free_mends(list);
+  s = jsonc_mend(B("[1] // c"), JSONC_ALL, &out, &list);
+  is(list.len == 0, "a document has no faults");
+  is(made(s, out, "[1] // c"), "and stays");
+  s = jsonc_mend(B("\xff"), JSONC_ALL, &out, &list);
+  is(s == JSONC_NOT_UTF8 && out.len == 0 && list.len == 0, "bytes that are no UTF-8, to be mended");
+}
+
+/* The mended text alone. */
+static uint32_t mended(jsonc_text_t *out) {
+  jsonc_mends_t list = JSONC_NO_MENDS;
+  uint32_t s = jsonc_mend(B("{\"a\": tru \"b\": [1"), JSONC_JSON_ALONE, out, &list);
+  is((s == JSONC_OK) == (list.len != 0), "mends are handed out with a text");
+  jsonc_free_mends(list);
+  return s;
+}
+
 static void lists(void) {
   static const size_t nowhere[1], first[1] = {0};
   jsonc_edit_t edits[] = {
@@ -183,7 +214,7 @@ static const jsonc_edit_t edits_refused[] = {
 #define MERGE "{\"b\": null, \"a\": {\"c\": {\"x\": null, \"y\": [1]}}, \"z\": 1}"
 
 /* The greatest number of a call, and of one into a buffer. */
-enum { LAST_CALL = 19, LAST_INTO = 12 };
+enum { LAST_CALL = 20, LAST_INTO = 12 };
 
 /* One of the calls, by its number. */
 static uint32_t call(int which, jsonc_text_t *out, jsonc_fault_t *fault) {
@@ -207,6 +238,7 @@ static uint32_t call(int which, jsonc_text_t *out, jsonc_fault_t *fault) {
   case 16: return jsonc_merge_patch(B(text), B("[{\"a\": 1, \"a\": 2}]"), JSONC_ALL, out, fault);
   case 17: return jsonc_edit(B(text), edits_refused, 1, JSONC_ALL, out, fault);
   case 18: return jsonc_edit(B(text), edits_refused + 1, 1, JSONC_ALL, out, fault);
+  case 19: return mended(out);
   default: return jsonc_check(B("[1,"), JSONC_ALL, fault);
   }
 }
@@ -308,6 +340,7 @@ int main(void) {
   faults();
   patch_faults();
   texts();
+  mends();
   lists();
   comments();
   buffers();

@@ -33,10 +33,12 @@ PEERS = [
     Peer('scan', "RapidJSON's events", 'rapidjson', 'events', 'comments, trailing commas', 'number texts, order'),
     Peer('check', "RapidJSON's events", 'rapidjson', 'events', 'comments, trailing commas', 'number texts, order'),
     Peer('value', "RapidJSON's DOM", 'rapidjson', 'value', 'comments, trailing commas', 'number texts, order'),
+    Peer('view', "RapidJSON's DOM", 'rapidjson', 'value', 'comments, trailing commas', 'number texts, order'),
     Peer('value', "serde_json's `Value`", 'serde_json', 'value', 'JSON', 'doubles'),
     Peer('value', "the kit's `json::Value`", 'json', 'value', 'JSON', 'number texts, order'),
     Peer('document', 'JsonCpp', 'jsoncpp', 'document', 'comments', 'doubles, comments, places'),
     Peer('value', "simdjson's DOM", 'simdjson', 'value', 'JSON', 'doubles, order'),
+    Peer('view', "simdjson's DOM", 'simdjson', 'value', 'JSON', 'doubles, order'),
 ]
 
 
@@ -80,7 +82,7 @@ def section(peers, rows):
             measure.machine(), datetime.date.today(), platform.freedesktop_os_release()['PRETTY_NAME']),
         '',
         'Ours to theirs, of throughput. Both read the settings without what the peer does not read. Ours keeps number texts '
-        'and the order of names; `scan` also places and comments, `document` every byte, and `check` nothing.',
+        'and the order of names; `scan` also places and comments, `document` every byte, and `check` nothing; `view` keeps places of the text.',
         '',
         measure.table(['Document'] + ['`%s`, %s' % (peer.ours, peer.name) for peer in peers], [
             ['*reads*'] + [peer.reads for peer in peers],

@@ -6,6 +6,7 @@ use jsonc_parser::cst::{CstInputValue, CstRootNode};
 use jsonc_parser::errors::ParseError;
 use jsonc_parser::numbers::parse_u64;
 use jsonc_parser::settings::read_at;
+use jsonc_parser::view::{ViewValue, parse_to_view};
 use jsonc_parser::{CollectOptions, JsonValue, ParseOptions, parse_to_ast, parse_to_value};
 use std::alloc::Allocator;
 use std::default::Default;
@@ -42,6 +43,20 @@ fn print_rulers<R: AllocGlobal + Print>(rt: &R, text: &str) -> anyhow::Result<()
             if let JsonValue::Number(digits) = ruler {
                 println!(rt; "ruler {digits}")?;
             }
+        }
+    }
+    Ok(())
+}
+
+/// Prints a string of a view, and the names of the object that it stands in.
+fn print_view<R: AllocGlobal + Print>(rt: &R, text: &str) -> anyhow::Result<()> {
+    let view = parse_to_view(rt.alloc(), text, &ParseOptions::default())?;
+    if let Some(ViewValue::Object(object)) = view.value() {
+        if let Some(ViewValue::String(theme)) = object.get("theme") {
+            println!(rt; "theme {theme}")?;
+        }
+        for (name, _) in object.iter() {
+            println!(rt; "name {name}")?;
         }
     }
     Ok(())
@@ -176,6 +191,7 @@ pub(crate) fn readings<R: AllocGlobal + Print>(rt: &R) -> anyhow::Result<()> {
         print_number(rt, name)?;
     }
     print_rulers(rt, SETTINGS)?;
+    print_view(rt, SETTINGS)?;
     print_place(rt, SETTINGS, "theme")?;
     print_place(rt, SETTINGS, "zoom")?;
     print_theme(rt, SETTINGS)?;

@@ -4,6 +4,7 @@ use crate::decoded::decoded;
 use crate::edited::edited;
 use crate::lookup::looked_up;
 use crate::member::looked_up_in_tree;
+use crate::mends::mended;
 use crate::program::{outcome, printed};
 use crate::scanned::tokens;
 use crate::syntax::syntax;
@@ -18,6 +19,7 @@ pub fn answer(alloc: Global, question: Question) -> Result<String, AllocError> {
         Question::Program { words, input } => { outcome(alloc, words.as_slice(), input.as_slice()) }
         Question::Scan { options, text } => tokens(alloc, text.as_str(), &options),
         Question::Value { options, text } => value(alloc, text.as_str(), &options),
+        Question::Mends { options, text } => mended(alloc, text.as_str(), &options),
         Question::Equal {
             options,
             one,

@@ -11,12 +11,14 @@ mod edited;
 mod input;
 mod lookup;
 mod member;
+mod mends;
 mod program;
 mod reading;
 mod scanned;
 mod show;
 mod syntax;
 mod value;
+mod view;
 
 use jsonc_cases::case::Case;
 use jsonc_cases::error::CaseError;

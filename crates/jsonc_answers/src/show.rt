@@ -17,7 +17,8 @@ pub fn push_string_kind(out: &mut String, kind: &ParseStringErrorKind) -> Result
     }
 }
 
-fn push_kind(out: &mut String, kind: &ParseErrorKind) -> Result<(), AllocError> {
+/// The name of a fault.
+pub fn push_kind(out: &mut String, kind: &ParseErrorKind) -> Result<(), AllocError> {
     match kind {
         ParseErrorKind::String(kind) => {
             out.push_str("String/")?;

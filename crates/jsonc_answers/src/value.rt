@@ -1,12 +1,13 @@
 //! The value of a text.
 
 use crate::show::push_fault;
+use crate::view::viewed;
 use jsonc_cases::escape::Escaped;
 use jsonc_parser::{JsonArray, JsonObject, JsonValue, ParseOptions, check, parse_to_value};
 use std::alloc::{AllocError, Global};
 use std::borrow::CowStr;
 
-/// The value of a text, or that it has none, or its fault; and what a check tells of the text, where that is
+/// The value of a text, or that it has none, or its fault; and what a check or a view tells of the text, where that is
 /// anything else.
 pub fn value(alloc: Global, text: &str, options: &ParseOptions) -> Result<String, AllocError> {
     let checked = told_by_a_check(alloc, text, options)?;
@@ -21,8 +22,13 @@ pub fn value(alloc: Global, text: &str, options: &ParseOptions) -> Result<String
             checked.as_ref() == Some(&out)
         }
     };
+    let viewed = viewed(alloc, text, options)?;
+    let is_viewed = viewed == out;
     if !is_told {
         push_check(&mut out, checked.as_ref())?;
+    }
+    if !is_viewed {
+        write!(out, "\tview: {viewed}")?;
     }
     Ok(out)
 }

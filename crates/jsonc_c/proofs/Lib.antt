@@ -6,3 +6,4 @@ mod Refused
 pub mod Telling
 mod Unedited
 mod Unread
+pub mod Mending

@@ -1,7 +1,8 @@
-pub mod Options
-pub mod Told
 pub mod Commands
-pub mod Edits
 pub mod Compared
+pub mod Edits
+pub mod Mends
+pub mod Options
 pub mod PatchTold
 pub mod Patches
+pub mod Told

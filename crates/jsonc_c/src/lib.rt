@@ -17,6 +17,7 @@ mod fault;
 mod handed;
 mod into;
 mod lists;
+mod mends;
 mod options;
 mod patch_fault;
 mod patches;
@@ -35,6 +36,7 @@ pub use into::{
     jsonc_set_into, jsonc_sort_into,
 };
 pub use lists::jsonc_edit;
+pub use mends::{JsoncMend, jsonc_mend};
 pub use patches::{jsonc_apply_patch, jsonc_find, jsonc_merge_patch};
 
 #[cfg(test)]

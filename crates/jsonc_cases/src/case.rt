@@ -26,6 +26,11 @@ pub enum Question {
         options: ParseOptions,
         text: String,
     },
+    /// The faults of a text, each with its change.
+    Mends {
+        options: ParseOptions,
+        text: String,
+    },
     /// Whether two texts have equal values.
     Equal {
         options: ParseOptions,
@@ -86,7 +91,7 @@ impl<'a> Case<'a> {
 impl Question {
     fn from_fields(alloc: Global, kind: &str, fields: &[&str]) -> Result<Question, CaseError> {
         match kind {
-            "scan" | "value" => of_text(alloc, kind, fields),
+            "scan" | "value" | "mends" => of_text(alloc, kind, fields),
             "jobj" | "aobj" | "edit" | "read" => of_document(alloc, kind, fields),
             "ast" => ast(alloc, fields),
             "equal" => equal(alloc, fields),
@@ -107,6 +112,7 @@ fn of_text(alloc: Global, kind: &str, fields: &[&str]) -> Result<Question, CaseE
     let text = unescaped_text(alloc, text)?;
     Ok(match kind {
         "scan" => Question::Scan { options, text },
+        "mends" => Question::Mends { options, text },
         _ => Question::Value { options, text },
     })
 }

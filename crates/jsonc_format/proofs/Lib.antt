@@ -26,3 +26,4 @@ pub mod Same
 pub mod Proper
 pub mod Documents
 pub mod Closing
+pub mod NextEnds

@@ -18,7 +18,7 @@ joined : {p : ℕ → Bool} {s t : List ℕ} → Many p s [] → Many p t [] →
 joined stop k = k
 joined (step h g) k = step h (joined g k)
 
-end_blank : {e : List ℕ} → IsLineEnd e → AreBlanks e
+pub end_blank : {e : List ℕ} → IsLineEnd e → AreBlanks e
 end_blank line_feed = step refl stop
 end_blank carriage_return = step refl stop
 end_blank both = step refl (step refl stop)
@@ -46,7 +46,7 @@ module _ (y : Style) (proper : IsProper y) where
   on_lines_blank : (s : State) (p : Piece) (ps : List Piece) → AreBlanks (gap_on_lines y s p ps)
   on_lines_blank s p ps = chosen s.line (line_blank s.around s.shifted _) (chosen (separates p.what) stop (chosen (s.in_property || (in_line p.gap && (s.comment || not (leads p.what ps)))) space_blank (line_blank s.around s.shifted _)))
 
-  gap_blank : (s : State) (fs : List Frame) (p : Piece) (ps : List Piece) → AreBlanks (gap_in y s fs p ps)
+  pub gap_blank : (s : State) (fs : List Frame) (p : Piece) (ps : List Piece) → AreBlanks (gap_in y s fs p ps)
   gap_blank s [] p ps = on_lines_blank s p ps
   gap_blank s (f ∷ fs) p ps = chosen (s.bare && closes p.what) stop (chosen (not f.spread) (chosen (separates p.what || ((s.bare || closes p.what) && not f.object)) stop space_blank)
       (chosen (closes p.what) (line_blank fs f.shifted false) (on_lines_blank s p ps)))

@@ -7,7 +7,7 @@ ghost use Rattle.jsonc_format.specs.Wishes.{IsLayoutOf, IsLevelOf, IsLineEndOf, 
 ghost use Rattle.jsonc_format.specs.Writing.{style_in};
 
 use crate::class::Class;
-use crate::gaps::{first_line_end, last_line};
+use crate::gaps::{first_line_end, has_line_end, last_line};
 use crate::output::Layout;
 use crate::scan::next_piece;
 use crate::style::{Level, LineEnd, Style};
@@ -26,6 +26,9 @@ fn found_line_end<A: Allocator + Copy>(
     ensures found { IfOk result (λ e. IsLineEndOf (parse_options options.now) text.now (line_end_text e)) }
     ensures refused { IfErr result (IsPiecesError (parse_options options.now) (chars text.now)) }
 {
+    if !has_line_end(text) {
+        return Ok(LineEnd::Lf);
+    }
     let mut scanner = Scanner::with_options(alloc, text, options.copied());
     let mut content = TokenContent::new();
     let mut from = 0;
@@ -62,6 +65,9 @@ fn found_level<'a, A: Allocator + Copy>(
     ensures found { IfOk result (λ level. IsLevelOf (parse_options options.now) text.now (chars level.now)) }
     ensures refused { IfErr result (IsPiecesError (parse_options options.now) (chars text.now)) }
 {
+    if !has_line_end(text) {
+        return Ok("  ");
+    }
     let mut scanner = Scanner::with_options(alloc, text, options.copied());
     let mut content = TokenContent::new();
     let mut from = 0;

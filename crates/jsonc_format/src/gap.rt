@@ -1,11 +1,10 @@
 //! Which blanks are written before a piece.
-ghost use Rattle.std.specs.Prelude.{◌≡◌, not, nat_lt, chars};
+ghost use Rattle.std.specs.Prelude.{◌≡◌, not};
 ghost use Rattle.jsonc_format.specs.Classes.{closes_by, separates_by};
-ghost use Rattle.jsonc_format.specs.Format.{in_line, lines};
 ghost use Rattle.jsonc_format.specs.Writing.{gap_by, gap_in_line_by, gap_on_lines_by};
 
 use crate::class::Class;
-use crate::gaps::{has_blank_line, has_line_end};
+use crate::gaps::Ends;
 use crate::state::{Beside, Frame};
 
 /// What is written before a piece.
@@ -33,14 +32,14 @@ fn gap_in_line(object: bool, bare: bool, class: Class) -> Gap
 }
 
 /// In a container on several lines, or in none, where the piece does not close it.
-fn gap_on_lines(beside: Beside, class: Class, gap: &str, leads: bool) -> Gap
-    ensures { result ≡ gap_on_lines_by beside (separates_by class) (in_line (chars gap.now)) (nat_lt 1 (lines (chars gap.now))) leads }
+fn gap_on_lines(beside: Beside, class: Class, ends: Ends, leads: bool) -> Gap
+    ensures { result ≡ gap_on_lines_by beside (separates_by class) (not ends.any) ends.several leads }
 {
     if beside.line {
         if class.separates() | beside.in_property {
             return Gap::Line(beside.shifted, false);
         }
-        return Gap::Line(beside.shifted, has_blank_line(gap));
+        return Gap::Line(beside.shifted, ends.several);
     }
     if class.separates() {
         return Gap::Nothing;
@@ -48,13 +47,13 @@ fn gap_on_lines(beside: Beside, class: Class, gap: &str, leads: bool) -> Gap
     if beside.in_property {
         return Gap::Space;
     }
-    if !has_line_end(gap) & (beside.comment | !leads) {
+    if !ends.any & (beside.comment | !leads) {
         return Gap::Space;
     }
     if beside.bare {
         return Gap::Line(beside.shifted, false);
     }
-    Gap::Line(beside.shifted, has_blank_line(gap))
+    Gap::Line(beside.shifted, ends.several)
 }
 
 /// Inside this innermost container, or none. An entry begins with the piece, or after it on its line past block comments, where
@@ -63,13 +62,13 @@ pub(crate) fn gap_before(
     inner: Option<Frame>,
     beside: Beside,
     class: Class,
-    gap: &str,
+    ends: Ends,
     leads: bool,
 ) -> Gap
-    ensures { result ≡ gap_by inner beside (separates_by class) (closes_by class) (in_line (chars gap.now)) (nat_lt 1 (lines (chars gap.now))) leads }
+    ensures { result ≡ gap_by inner beside (separates_by class) (closes_by class) (not ends.any) ends.several leads }
 {
     let Some(frame) = inner else {
-        return gap_on_lines(beside, class, gap, leads);
+        return gap_on_lines(beside, class, ends, leads);
     };
     if beside.bare & class.closes() {
         return Gap::Nothing;
@@ -80,5 +79,5 @@ pub(crate) fn gap_before(
     if class.closes() {
         return Gap::LastLine(frame.shifted);
     }
-    gap_on_lines(beside, class, gap, leads)
+    gap_on_lines(beside, class, ends, leads)
 }

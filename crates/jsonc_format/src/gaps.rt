@@ -1,9 +1,10 @@
 //! The blanks between two pieces.
-ghost use Rattle.std.specs.Prelude.{◌≡◌, ℕ, List, IsCharBoundary, chars, not, nat_lt, option_map};
+ghost use Rattle.std.specs.Prelude.{◌≡◌, ℕ, List, IsCharBoundary, chars, not, nat_lt, option_map, slice_range};
+ghost use Rattle.jsonc_text.specs.Text.{Spans};
 ghost use Rattle.jsonc_text.specs.string.Between.{LacksAt, is_neither};
 ghost use Rattle.jsonc_format.specs.Format.{in_line, lines};
 ghost use Rattle.jsonc_format.specs.Styles.{first_end, last_line, or_else};
-ghost use Rattle.jsonc_format.specs.Gaps.{IsPastLine};
+ghost use Rattle.jsonc_format.specs.Gaps.{AreEnds, IsNextEnd, IsPastLine};
 ghost use Rattle.jsonc_format.specs.Wishes.{line_end_text};
 
 use crate::style::LineEnd;
@@ -15,7 +16,52 @@ use jsonc_text::string::stops::stop_place;
 pub(crate) fn has_line_end(text: &str) -> bool
     ensures { result ≡ not (in_line (chars text.now)) }
 {
+    if text.is_empty() {
+        return false;
+    }
     stop_place(text, 0, b'\n', b'\r') < text.len()
+}
+
+/// Whether a line ends between two places. Where a line ends from the one on is known, and then from the other on.
+#[inline(always)]
+pub(crate) fn ends_between(text: &str, from: usize, to: usize, line_end: &mut usize) -> bool
+    requires span { Spans text.now from to }
+    requires known { IsNextEnd text.now from line_end.old }
+    ensures ends { result ≡ not (in_line (chars (slice_range text.now from to))) }
+    ensures known { IsNextEnd text.now to line_end.new }
+{
+    if to <= *line_end {
+        return false;
+    }
+    *line_end = stop_place(text, to, b'\n', b'\r');
+    true
+}
+
+/// What ends in the blanks before a piece: a line, and more than one.
+#[derive(Clone, Copy, Drop)]
+pub(crate) struct Ends {
+    pub any: bool,
+    pub several: bool,
+}
+
+/// What ends between two places, as [`ends_between`] tells it.
+#[inline(always)]
+pub(crate) fn ends_in(text: &str, from: usize, to: usize, line_end: &mut usize) -> Ends
+    requires span { Spans text.now from to }
+    requires known { IsNextEnd text.now from line_end.old }
+    ensures ends { AreEnds result (chars (slice_range text.now from to)) }
+    ensures known { IsNextEnd text.now to line_end.new }
+{
+    if !ends_between(text, from, to, line_end) {
+        return Ends {
+            any: false,
+            several: false,
+        };
+    }
+    Ends {
+        any: true,
+        several: has_blank_line(&text[from..to]),
+    }
 }
 
 /// The place after the end of a line that is at a place, or the place itself at the end of the text.

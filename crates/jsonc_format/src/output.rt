@@ -30,6 +30,7 @@ pub(crate) fn put<A: Allocator>(out: &mut String<A>, text: &str) -> Result<(), A
 }
 
 /// Writes one level of indent, or nothing.
+#[inline(always)]
 fn put_shift<A: Allocator>(
     out: &mut String<A>,
     level: &str,
@@ -44,6 +45,7 @@ fn put_shift<A: Allocator>(
 }
 
 /// Writes the indent that a container adds.
+#[inline(always)]
 fn put_level<A: Allocator>(
     out: &mut String<A>,
     level: &str,

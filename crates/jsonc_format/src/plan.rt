@@ -4,12 +4,13 @@ ghost use Rattle.jsonc_text.specs.OptionsOf.{parse_options};
 ghost use Rattle.jsonc_format.specs.Pieces.{AreFlagsOf, IsPiecesError};
 
 use crate::class::Class;
-use crate::gaps::has_line_end;
+use crate::gaps::ends_between;
 use crate::scan::next_piece;
 use jsonc_scan::found::TokenContent;
 use jsonc_scan::scanner::Scanner;
 use jsonc_text::errors::ParseError;
 use jsonc_text::options::ParseOptions;
+use jsonc_text::string::stops::stop_place;
 use std::alloc::{AllocError, Allocator};
 
 /// An array or object that is open: its number, and whether a line has ended in it, but for what is in an open one inside it.
@@ -129,13 +130,14 @@ pub(crate) fn flat_containers<A: Allocator + Copy>(
     let mut content = TokenContent::new();
     let mut plan = Plan::new(alloc);
     let mut from = 0;
+    let mut line_end = stop_place(text, 0, b'\n', b'\r');
     'pieces: loop {
         let found = next_piece(&mut scanner, &mut content)?;
         let Some(kind) = found else {
             return Ok(plan.flat);
         };
         let end = scanner.token_end();
-        let in_line = !has_line_end(&text[from..end]);
+        let in_line = !ends_between(text, from, end, &mut line_end);
         let Ok(()) = plan.pass(Class::of(kind), in_line) else {
             return Err(ParseError::out_of_memory());
         };

@@ -1,5 +1,5 @@
 //! The formatted text, piece by piece.
-ghost use Rattle.std.specs.Prelude.{◌≡◌, ◌++◌, IfOk, IfErr, OnOk, chars};
+ghost use Rattle.std.specs.Prelude.{◌≡◌, ◌++◌, IfOk, IfErr, OnOk, chars, slice_range};
 ghost use Rattle.jsonc_text.specs.Lexemes.{Scanned};
 ghost use Rattle.jsonc_text.specs.OptionsOf.{parse_options};
 ghost use Rattle.jsonc_text.specs.Faults.{IsOutOfMemory};
@@ -7,11 +7,13 @@ ghost use Rattle.jsonc_text.specs.Text.{rest, Spans};
 ghost use Rattle.jsonc_format.specs.Classes.{IsOf};
 ghost use Rattle.jsonc_format.specs.Flags.{flats_of};
 ghost use Rattle.jsonc_format.specs.Format.{Piece, IsPieces};
+ghost use Rattle.jsonc_format.specs.Gaps.{AreEnds};
 ghost use Rattle.jsonc_format.specs.Pieces.{piece_at, IsPiecesError};
 ghost use Rattle.jsonc_format.specs.Printing.{IsPrinted, PutsRead, last_line_end};
 ghost use Rattle.jsonc_format.specs.Writing.{style_in, text_of};
 
 use crate::class::Class;
+use crate::gaps::{Ends, ends_between, ends_in};
 use crate::output::{Layout, put};
 use crate::scan::{leads_from, next_piece};
 use crate::track::Track;
@@ -19,15 +21,17 @@ use jsonc_scan::found::TokenContent;
 use jsonc_scan::scanner::Scanner;
 use jsonc_text::errors::ParseError;
 use jsonc_text::options::ParseOptions;
+use jsonc_text::string::stops::stop_place;
 use std::alloc::Allocator;
 
-/// A piece by its places: where the blanks before it begin, where it begins, and where it ends.
+/// A piece by its places: where the blanks before it begin, where it begins, and where it ends; and what ends in those blanks.
 #[derive(Clone, Copy, Drop)]
 pub(crate) struct Read {
     pub class: Class,
     pub from: usize,
     pub start: usize,
     pub end: usize,
+    pub ends: Ends,
 }
 
 /// Writes a piece of a text and what is before it.
@@ -40,8 +44,8 @@ fn put_read<A: Allocator + Copy>(
     out: &mut String<A>,
     read: Read,
 ) -> Result<(), ParseError>
-    requires gap { Spans text.now read.from read.start }
     requires piece { Spans text.now read.start read.end }
+    requires ends { AreEnds read.ends (chars (slice_range text.now read.from read.start)) }
     ensures put { (w : Scanned) → IsOf read.class w → OnOk result (PutsRead (parse_options options.now) text.now (style_in layout.now) read w track.old track.new (text_of out.old) (text_of out.new)) }
     ensures refused { IfErr result (IsPiecesError (parse_options options.now) (rest text.now read.end)) }
 {
@@ -53,9 +57,8 @@ fn put_read<A: Allocator + Copy>(
         read.end,
         track.beside.comment,
     )?;
-    let gap = &text[read.from..read.start];
     let written = &text[read.start..read.end];
-    let Ok(()) = track.put(out, layout, read.class, gap, written, leading) else {
+    let Ok(()) = track.put(out, layout, read.class, read.ends, written, leading) else {
         return Err(ParseError::out_of_memory());
     };
     Ok(())
@@ -98,18 +101,24 @@ pub(crate) fn print<A: Allocator + Copy>(
     };
     let mut track = Track::new(alloc, flat);
     let mut from = 0;
+    let mut line_end = stop_place(text, 0, b'\n', b'\r');
     'pieces: loop {
         let found = next_piece(&mut scanner, &mut content)?;
         let Some(kind) = found else {
             return end_with(out, layout.line_end, track.begun);
         };
+        let start = scanner.token_start();
+        let end = scanner.token_end();
+        let ends = ends_in(text, from, start, &mut line_end);
+        ends_between(text, start, end, &mut line_end);
         let read = Read {
             class: Class::of(kind),
             from,
-            start: scanner.token_start(),
-            end: scanner.token_end(),
+            start,
+            end,
+            ends,
         };
         put_read(alloc, text, options, layout, &mut track, &mut out, read)?;
-        from = read.end;
+        from = end;
     }
 }

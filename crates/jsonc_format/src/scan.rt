@@ -27,6 +27,9 @@ pub(crate) fn next_piece<'a, A: Allocator + Copy>(
     ensures none { IfErr result (λ _. IsUtf8 (text_of scanner.new) → HasNoPieces (options_of scanner.old) (left scanner.old)) }
     ensures text { text_of scanner.new ≡ text_of scanner.old }
 {
+    if let Some(kind) = scanner.step_plain(content, &false) {
+        return Ok(Some(kind));
+    }
     match scanner.step(content, false) {
         Ok(found) => Ok(found),
         Err(error) => Err(error),

@@ -3,12 +3,14 @@ ghost use Rattle.std.specs.Prelude.{◌≡◌, ◌∷◌, ◌++◌, ◌||◌, []
 ghost use Rattle.jsonc_text.specs.Lexemes.{Scanned};
 ghost use Rattle.jsonc_format.specs.Classes.{IsOf};
 ghost use Rattle.jsonc_format.specs.Flags.{flats_of};
+ghost use Rattle.jsonc_format.specs.Gaps.{AreEnds};
 ghost use Rattle.jsonc_format.specs.Format.{Piece, leads, start, written};
 ghost use Rattle.jsonc_format.specs.Writing.{style_in, text_of};
 ghost use Rattle.jsonc_format.specs.Tracks.{track_state, gap_here, Nests, PassesPiece, PutsPiece};
 
 use crate::class::Class;
 use crate::gap::{Gap, gap_before};
+use crate::gaps::Ends;
 use crate::output::{Layout, put_gap, put_piece};
 use crate::state::{Beside, Frame, Open};
 use std::alloc::{AllocError, Allocator};
@@ -90,16 +92,16 @@ impl<'a, A: Allocator> Track<'a, A> {
         out: &mut String<A>,
         layout: &Layout<'_>,
         class: Class,
-        gap: &str,
+        ends: Ends,
         leading: bool,
     ) -> Result<(), AllocError>
-        ensures { (p : Piece) (ps : List Piece) → p.gap ≡ chars gap.now → IsOf class p.what → (self.now.beside.comment ≡ false → leads p.what ps ≡ leading)
+        ensures { (p : Piece) (ps : List Piece) → AreEnds ends p.gap → IsOf class p.what → (self.now.beside.comment ≡ false → leads p.what ps ≡ leading)
             → OnOk result (text_of out.new ≡ text_of out.old ++ gap_here self.now.begun (style_in layout.now) (track_state self.now) p ps) }
     {
         if !self.begun {
             return Ok(());
         }
-        let before = gap_before(self.frames.inner, self.beside, class, gap, leading);
+        let before = gap_before(self.frames.inner, self.beside, class, ends, leading);
         put_gap(out, layout, &self.frames, before)
     }
 
@@ -109,14 +111,14 @@ impl<'a, A: Allocator> Track<'a, A> {
         out: &mut String<A>,
         layout: &Layout<'_>,
         class: Class,
-        gap: &str,
+        ends: Ends,
         text: &str,
         leading: bool,
     ) -> Result<(), AllocError>
-        ensures { (p : Piece) (ps : List Piece) → p.gap ≡ chars gap.now → p.text ≡ chars text.now → IsOf class p.what → self.old.flat.now ≡ flats_of p.what ps
+        ensures { (p : Piece) (ps : List Piece) → AreEnds ends p.gap → p.text ≡ chars text.now → IsOf class p.what → self.old.flat.now ≡ flats_of p.what ps
             → (self.old.beside.comment ≡ false → leads p.what ps ≡ leading) → OnOk result (PutsPiece (style_in layout.now) p ps self.old self.new (text_of out.old) (text_of out.new)) }
     {
-        self.put_before(out, layout, class, gap, leading)?;
+        self.put_before(out, layout, class, ends, leading)?;
         put_piece(out, class, text)?;
         self.pass(class, layout)
     }

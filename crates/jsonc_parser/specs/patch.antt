@@ -11,6 +11,7 @@ pub mod Laws
 pub mod Numbers
 pub mod Equality
 pub mod Operations
+pub mod MadeBy
 pub mod Asked
 pub mod Patches
 pub mod Failing

@@ -7,17 +7,9 @@ ghost use Rattle.jsonc_parser.specs.Changes.{BeginsApart, EndsApart, EndsOutside
 ghost use Rattle.jsonc_parser.specs.Changes.{IsLeastOutside, IsUtf16Change, StartsOutside};
 
 use crate::places::{ColumnUnit, walk_to};
+use jsonc_mends::TextChange;
 use jsonc_text::common::Range;
 use jsonc_text::line::LineAndColumn;
-
-/// A stretch of a text, and the text that replaces it. The stretch may begin or end inside a CR LF.
-#[derive(Clone, Copy, Debug, PartialEq, Eq)]
-pub struct TextChange<'n> {
-    /// The bytes of the old text that are replaced.
-    pub range: Range,
-    /// The text in their place.
-    pub new_text: &'n str,
-}
 
 // What follows the longest common beginning of two texts, in each.
 fn after_common_start<'o, 'n>(old: &'o str, new: &'n str) -> (&'o str, &'n str)

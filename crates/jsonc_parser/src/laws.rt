@@ -42,8 +42,8 @@
 //!
 //! What a pointer prints is parsed as the same ([`pointers_are_read_back`]), a text is one pointer or has one fault
 //! ([`pointers_are_read_in_one_way`]), and a pointer refers to one value at most ([`pointers_refer_to_one_value`]). What is
-//! found by a pointer that refers to a node is that node ([`pointers_lead_back`]). What a fault shows of a name is in one
-//! line ([`names_are_shown_in_one_line`]).
+//! found by a pointer that refers to a node is that node ([`pointers_lead_back`]). A patch of tests alone changes no byte
+//! ([`tests_change_nothing`]). What a fault shows of a name is in one line ([`names_are_shown_in_one_line`]).
 //!
 //! The laws of trees of nodes, on which these rest, are in [`nodes`].
 
@@ -52,7 +52,7 @@ pub mod nodes;
 pub use crate::numbers::laws::numbers_have_one_value;
 pub use crate::patch::laws::{
     names_are_shown_in_one_line, pointers_are_read_back, pointers_are_read_in_one_way,
-    pointers_lead_back, pointers_refer_to_one_value,
+    pointers_lead_back, pointers_refer_to_one_value, tests_change_nothing,
 };
 pub use crate::paths::laws::{
     each_node_stands_at_its_place, names_lead_over_nodes, nodes_have_their_values,

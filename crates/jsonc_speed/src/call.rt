@@ -6,10 +6,9 @@ ghost use Rattle.jsonc_cst.specs.Nodes.{object_node};
 use crate::documents::{elements, parsed};
 use crate::edits::{appended, inserted, removed, replaced, set};
 use crate::patches::patched;
-use jsonc_engine::command::Command;
-use jsonc_engine::engine::run_on;
 use jsonc_engine::fault::Fault;
 use jsonc_parser::cst::{CstContainerNode, CstNode, CstObject, CstRootNode, EditError, TypedNode};
+use jsonc_parser::view::parse_to_view;
 use jsonc_parser::{
     CollectOptions, CommentCollectionStrategy, LineIndex, ParseOptions, Scanner, ScannerOptions,
     check, parse_to_ast, parse_to_value,
@@ -31,6 +30,8 @@ pub enum Call {
     Tokens,
     /// `parse_to_value`.
     Value,
+    /// `parse_to_view`.
+    View,
     /// `CstRootNode::parse`.
     Document,
     /// `text` of a document that is parsed once.
@@ -69,6 +70,7 @@ impl Call {
             "ast" => Some(Call::Ast),
             "tokens" => Some(Call::Tokens),
             "value" => Some(Call::Value),
+            "view" => Some(Call::View),
             "document" => Some(Call::Document),
             "print" => Some(Call::Print),
             "program" => Some(Call::Program),
@@ -130,6 +132,7 @@ impl Call {
             Call::Ast => ast(alloc, text),
             Call::Tokens => tokens(alloc, text),
             Call::Value => value(alloc, text),
+            Call::View => view(alloc, text),
             Call::Document => document(alloc, text),
             Call::Program => program(alloc, text),
             Call::Patched => patched(alloc, text),
@@ -207,6 +210,19 @@ fn value(alloc: Global, text: &str) -> Result<usize, Fault<Global>> {
     }
 }
 
+/// 1 for a text with a value, 0 for one without.
+fn view(alloc: Global, text: &str) -> Result<usize, Fault<Global>> {
+    match parse_to_view(alloc, text, &ParseOptions::default()) {
+        Ok(view) => {
+            if view.value().is_some() {
+                return Ok(1);
+            }
+            Ok(0)
+        }
+        Err(error) => Err(Fault::Input(error)),
+    }
+}
+
 /// 1 for each document.
 fn document(alloc: Global, text: &str) -> Result<usize, Fault<Global>> {
     let _document = parsed(alloc, text)?;
@@ -226,12 +242,12 @@ fn print(alloc: Global, text: &str, count: u64) -> Result<usize, Fault<Global>> 
     Ok(sum)
 }
 
-/// The bytes that a run of the program writes.
+/// The bytes of a text that is looked at as bytes, parsed and printed.
 fn program(alloc: Global, text: &str) -> Result<usize, Fault<Global>> {
-    match run_on(alloc, Command::Print, text.as_bytes())? {
-        Some(output) => Ok(output.len()),
-        None => Ok(0),
-    }
+    let Ok(text) = str::from_utf8(text.as_bytes()) else {
+        return Err(Fault::NotUtf8);
+    };
+    print(alloc, text, 1)
 }
 
 /// How many of the elements have a next sibling.

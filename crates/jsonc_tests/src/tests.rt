@@ -16,4 +16,3 @@ mod texts;
 mod tokens;
 mod tree_copies;
 mod unasked;
-mod words;

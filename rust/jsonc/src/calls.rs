@@ -1,7 +1,8 @@
 //! The calls.
 use crate::edit::Edit;
-use crate::error::Error;
-use crate::text::Text;
+use crate::error::{Error, kind_of};
+use crate::mends::{Mend, Mends};
+use crate::text::{NO_MENDS, Text, mends_of};
 use crate::{Options, ffi};
 
 /// A fault with all of it 0.
@@ -133,6 +134,28 @@ pub fn apply_patch(text: &str, options: Options, patch: &str) -> Result<Text, Er
 /// Merges a JSON Merge Patch (RFC 7396), a JSON text of the options.
 pub fn merge_patch(text: &str, options: Options, patch: &str) -> Result<Text, Error> {
     handed!(jsonc_merge_patch, options, text, patch)
+}
+
+/// Every fault of a text with a change for it, and the text with all changes made, which is a document of the options.
+///
+/// There are no mends where the text is a document. The first fault is the one that [`check`] tells.
+pub fn mend(text: &str, options: Options) -> Result<Mends, Error> {
+    let (mut out, mut list) = (Text::NONE, NO_MENDS);
+    // SAFETY: as in `handed`; `list` too is this function's own.
+    let status = unsafe { ffi::jsonc_mend(text.as_ptr(), text.len(), options.bits(), &mut out, &mut list) };
+    if status != ffi::OK {
+        return Err(Error::of(status, &no_fault(), 0));
+    }
+    let (text, list) = (Text::of(out), mends_of(list));
+    let mend = |it: &ffi::Mend| Mend {
+        kind: kind_of(it.kind),
+        fault: it.fault_start..it.fault_end,
+        line: it.line,
+        column: it.column,
+        range: it.start..it.end,
+        written: it.written_start..it.written_end,
+    };
+    Ok(Mends { list: list.iter().map(mend).collect(), text })
 }
 
 /// Writes the text that the document prints into a buffer, and answers its length, as each of the next calls.

@@ -16,9 +16,14 @@ pub struct Fault {
     text: String,
 }
 
+/// The name of a kind's number.
+pub(crate) fn kind_of(number: u32) -> &'static str {
+    ffi::KINDS.iter().find(|(it, _)| *it == number).map_or("", |(_, name)| name)
+}
+
 impl Fault {
     pub(crate) fn of(fault: &ffi::Fault) -> Fault {
-        let kind = ffi::KINDS.iter().find(|(number, _)| *number == fault.kind).map_or("", |(_, name)| name);
+        let kind = kind_of(fault.kind);
         let text = &fault.text[..fault.text_len.min(ffi::FAULT_TEXT_LEN)];
         Fault {
             kind,

@@ -233,6 +233,40 @@ const _: () = assert!(offset_of!(Edit, index) == 56);
 const _: () = assert!(offset_of!(Edit, first) == 64);
 const _: () = assert!(offset_of!(Edit, second) == 65);
 
+/// A fault of a text, and the change for it.
+#[repr(C)]
+#[derive(Clone, Copy)]
+pub struct Mend {
+    /// The number of the fault's kind.
+    pub kind: u32,
+    /// The byte offset of the text at which the fault begins.
+    pub fault_start: usize,
+    /// The byte offset at which it ends.
+    pub fault_end: usize,
+    /// The line of its start, counted from 1.
+    pub line: usize,
+    /// The column of its start in characters, counted from 1.
+    pub column: usize,
+    /// The byte offset of the text at which the bytes that are replaced begin.
+    pub start: usize,
+    /// The byte offset at which they end.
+    pub end: usize,
+    /// The byte offset of the mended text at which what replaces them begins.
+    pub written_start: usize,
+    /// The byte offset at which it ends.
+    pub written_end: usize,
+}
+const _: () = assert!(size_of::<Mend>() == 72);
+const _: () = assert!(offset_of!(Mend, kind) == 0);
+const _: () = assert!(offset_of!(Mend, fault_start) == 8);
+const _: () = assert!(offset_of!(Mend, fault_end) == 16);
+const _: () = assert!(offset_of!(Mend, line) == 24);
+const _: () = assert!(offset_of!(Mend, column) == 32);
+const _: () = assert!(offset_of!(Mend, start) == 40);
+const _: () = assert!(offset_of!(Mend, end) == 48);
+const _: () = assert!(offset_of!(Mend, written_start) == 56);
+const _: () = assert!(offset_of!(Mend, written_end) == 64);
+
 unsafe extern "C" {
     /// Checks whether a text is a document.
     ///
@@ -323,6 +357,15 @@ unsafe extern "C" {
     /// options, or has no value. 21: a name stands twice in an object of the patch, or in one of the document
     /// where it is looked up. 28: a value would be nested deeper than texts are parsed.
     pub fn jsonc_merge_patch(text: *const u8, text_len: usize, patch: *const u8, patch_len: usize, options: u32, out: *mut Slice<u8>, fault: *mut Fault) -> u32;
+
+    /// Tells every fault of a text with a change for it, and hands out the text with all changes made, which is
+    /// a document.
+    ///
+    /// 0: it is done. 1: an allocation failed. 3: the text is not UTF-8. The mends are in order, and there are
+    /// none where the text is a document within the nesting. The first one's fault is the one that
+    /// `jsonc_check` tells. What a mend writes stands in the mended text. The list is one block of `malloc`, as
+    /// the text is.
+    pub fn jsonc_mend(text: *const u8, text_len: usize, options: u32, out: *mut Slice<u8>, mends: *mut Slice<Mend>) -> u32;
 
     /// Writes the text that the document prints into a buffer, as `jsonc_print` hands it out.
     ///

@@ -56,3 +56,17 @@ impl fmt::Display for Text {
         f.write_str(self)
     }
 }
+
+/// What a call is given to write its mends behind: a pointer that is not null, and no mends.
+pub(crate) const NO_MENDS: ffi::Slice<ffi::Mend> = ffi::Slice { at: std::ptr::dangling(), len: 0 };
+
+/// Copies the mends of a slice that a call has written, and frees it.
+pub(crate) fn mends_of(slice: ffi::Slice<ffi::Mend>) -> Vec<ffi::Mend> {
+    // SAFETY: the pointer is not null, and so many mends are there.
+    let mends = unsafe { std::slice::from_raw_parts(slice.at, slice.len) }.to_vec();
+    if slice.len > 0 {
+        // SAFETY: a list that is not empty is one block of `malloc`, which no one else holds.
+        unsafe { ffi::free(slice.at.cast_mut().cast()) }
+    }
+    mends
+}

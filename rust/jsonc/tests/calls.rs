@@ -1,5 +1,5 @@
 //! Each call: its text, its faults, and its threads.
-use jsonc::{Edit, Error, Options, Place, Shape, append, apply_patch, check, drop_at, edit, find, get, merge_patch, print, put};
+use jsonc::{Edit, Error, Options, Place, Shape, append, apply_patch, check, drop_at, edit, find, get, mend, merge_patch, print, put};
 use jsonc::{append_into, apply_patch_into, drop_at_into, edit_into, find_into, get_into, merge_patch_into, print_into};
 use jsonc::{put_into, remove, remove_into, set, set_into, sort, sort_into};
 
@@ -39,6 +39,19 @@ fn a_fault_has_its_place_and_text() {
     assert!(matches!(append("{}", Options::ALL, "1"), Err(Error::NotArray)));
     assert!(matches!(put("[]", Options::ALL, &["a"], "1"), Err(Error::OnTheWay)));
     assert!(matches!(put("{}", Options::ALL, &["a"], " "), Err(Error::NoValue)));
+}
+
+#[test]
+fn every_fault_has_a_change() {
+    // (docs/FAULTS.md has these)
+    let broken = "{\n  \"a\": 1 \"b\": [1, 2\n}";
+    let mends = mend(broken, Options::JSON).expect("it is mended");
+    assert_eq!(&*mends.text, "{\n  \"a\": 1, \"b\": [1, 2]\n}");
+    let told: Vec<_> = mends.list.iter().map(|it| (it.kind, it.line, it.column, it.range.clone(), mends.new_text(it))).collect();
+    assert_eq!(told, [("EXPECTED_COMMA", 2, 9, 10..10, ","), ("UNEXPECTED_CLOSE_BRACE", 3, 1, 21..21, "]")]);
+    assert_eq!(mends.list[1].fault, 22..23);
+    let document = mend(TEXT, Options::JSONC).expect("it is mended");
+    assert_eq!((&*document.text, document.list.len()), (TEXT, 0));
 }
 
 #[test]

@@ -11,6 +11,7 @@ pub mod Made
 pub mod Operating
 pub mod Edited
 pub mod Chains
+pub mod OwnEdits
 pub mod Unique
 pub mod Failing
 pub mod Exclusive

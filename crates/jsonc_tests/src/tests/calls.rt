@@ -6,7 +6,7 @@ use crate::tests::maps::changed_map;
 use crate::tests::nodes::node_names;
 use crate::tests::tokens::decode_provided;
 use crate::tests::tree_copies::tree_copies;
-use crate::tests::words::run_by;
+use engine_runs::run_by;
 use failing_alloc::awaited::Awaited;
 use failing_alloc::outcome::Outcome;
 use jsonc_engine::calls::{FromReader, ToWriter};

@@ -1,7 +1,7 @@
 //! Each request for memory of a call, refused in turn.
 
 use crate::tests::calls::{CALLS, Call, outcome_of};
-use crate::tests::words::run_by;
+use engine_runs::run_by;
 use failing_alloc::Refusing;
 use failing_alloc::awaited::{Awaited, prints};
 use failing_alloc::in_turn::{answers_in_turn, is_refused_in_turn};

@@ -1,10 +1,8 @@
 //! A reader and a writer of a few bytes a call, one of whose calls fails.
 
-use crate::tests::words::run_by;
-use failing_alloc::awaited::prints;
-use failing_alloc::streams::{Calls, Reader, STEP, Writer};
+use engine_runs::{Course, run, run_by};
+use failing_alloc::streams::{Calls, STEP, Writer};
 use jsonc_engine::calls::{FromReader, ToWriter};
-use jsonc_engine::fault::Fault;
 use std::alloc::Global;
 use std::io;
 use std::io::{ErrorKind, Read};
@@ -27,15 +25,15 @@ const OBJECT: &[u8] = b"{\"b\": 1, // one\n \"a\": 2}";
 
 /// The array takes seven reads: six of five bytes, and one that finds the end. The object takes six. Each piece
 /// of what is written takes one write, but two where it is longer than five bytes, as the strings of the array
-/// and the comment are; and one call more is the flush. A value that is got is one piece.
+/// and the comment are; and one call more is the flush. A text that is printed as it is, and a value that is got, are one piece.
 static CASES: [Case; 10] = [
     Case {
         words: &["print"],
         input: TEXT,
         reads: 7,
         written: TEXT,
-        // 19 pieces, with two strings.
-        writes: 22,
+        // One piece of 30 bytes.
+        writes: 7,
     },
     Case {
         words: &["append", "6"],
@@ -111,45 +109,9 @@ static CASES: [Case; 10] = [
     },
 ];
 
-/// What came of a run, and what was called in it.
-#[derive(Drop)]
-struct Course {
-    ended: Result<(), Fault<Global>>,
-    written: Vec<u8>,
-    reads: Calls,
-    /// How many reads the source has seen give nothing.
-    empty_reads: u64,
-    writes: Calls,
-}
-
-/// A run of a command over a text, with so many reads and so many writes and flushes that succeed.
-fn run(alloc: Global, words: &[&str], input: &'static [u8], reads: usize, writes: usize) -> Course {
-    let mut source = FromReader::new(Reader {
-        rest: input,
-        calls: Calls::new(reads),
-    });
-    let mut sink = ToWriter::new(Writer {
-        bytes: Vec::new(alloc),
-        calls: Calls::new(writes),
-    });
-    let ended = run_by(alloc, words, &mut source, &mut sink);
-    let FromReader { reader, empty, .. } = source;
-    let ToWriter { writer, .. } = sink;
-    Course {
-        ended,
-        written: writer.bytes,
-        reads: reader.calls,
-        empty_reads: empty,
-        writes: writer.calls,
-    }
-}
-
 /// Whether a run failed with the status 1 and this line, and wrote nothing.
 fn is_told(run: &Course, line: &str) -> bool {
-    match &run.ended {
-        Ok(()) => false,
-        Err(fault) => fault.status() == 1 && prints(fault, line) && run.written.is_empty(),
-    }
+    run.is_told(line) && run.written.is_empty()
 }
 
 /// After so many reads the next one fails, and nothing is called behind it.
@@ -165,13 +127,9 @@ fn fails_to_read(alloc: Global, case: &Case, reads: usize) -> bool {
 /// to be written.
 fn fails_to_write(alloc: Global, case: &Case, writes: usize) -> bool {
     let run = run(alloc, case.words, case.input, 100, writes);
-    let is_failure = match &run.ended {
-        Ok(()) => false,
-        Err(fault) => fault.status() == 1 && prints(fault, "jsonc: write failed"),
-    };
     let count = run.written.len();
     let is_beginning = case.written.starts_with(run.written.as_slice());
-    is_failure
+    run.is_told("jsonc: write failed")
         && is_beginning
         && count >= writes
         && count <= writes.saturating_mul(STEP)

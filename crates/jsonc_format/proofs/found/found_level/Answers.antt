@@ -4,10 +4,16 @@ use Rattle.jsonc_scan.specs.Scanner.{IsThere, seen, scanned_seen}
 use Rattle.jsonc_format.specs.Styles.{last_line, tells_level}
 use Rattle.jsonc_format.specs.Wishes.{IsLevelOf}
 use Rattle.jsonc_format.proofs.FoundStyles.{NoLevel, no_level_next, level_here, level_last}
+use Rattle.jsonc_format.proofs.NextEnds.{not_false, two_spaces_told}
 use Rattle.jsonc_format.proofs.Reading.{at_place, read_to, read_some}
 use Rattle.jsonc_format.proofs.States.{class_told}
 use Rattle.jsonc_format.proofs.Texts.{two_spaces}
 use Rattle.jsonc_format.proofs.found.found_level.Goals as goal
+
+pub returns-then-not-has_line_end-clause-found : goal.returns-then-not-has_line_end-clause-found
+returns-then-not-has_line_end-clause-found g c =
+    let o = parse_options c.args.options.now in
+    subst (IsLevelOf o c.args.text.now) (sym two_spaces) (two_spaces_told o c.args.text.now (not_false _ (sym c.if-not-has_line_end.true ∙ c.has_line_end.ensures)))
 
 pub returns-in_default-clause-found : goal.returns-in_default-clause-found
 returns-in_default-clause-found g c =

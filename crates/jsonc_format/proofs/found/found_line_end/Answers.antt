@@ -1,11 +1,15 @@
-use Rattle.std.proofs.Common.{◌∙◌, ap, subst, option_map, [], ◌∷◌, chars}
+use Rattle.std.proofs.Common.{◌∙◌, ap, sym, subst, option_map, [], ◌∷◌, chars}
 use Rattle.jsonc_text.specs.OptionsOf.{parse_options}
 use Rattle.jsonc_scan.specs.Scanner.{IsThere, seen, scanned_seen}
 use Rattle.jsonc_format.specs.Styles.{or_else}
 use Rattle.jsonc_format.specs.Wishes.{line_end_text}
 use Rattle.jsonc_format.proofs.FoundStyles.{no_end_next, end_found, end_last}
+use Rattle.jsonc_format.proofs.NextEnds.{line_feed_told, not_false}
 use Rattle.jsonc_format.proofs.Reading.{at_place, read_to, gap_to_end}
 use Rattle.jsonc_format.proofs.found.found_line_end.Goals as goal
+
+pub returns-then-not-has_line_end-clause-found : goal.returns-then-not-has_line_end-clause-found
+returns-then-not-has_line_end-clause-found g c = line_feed_told (parse_options c.args.options.now) c.args.text.now (not_false _ (sym c.if-not-has_line_end.true ∙ c.has_line_end.ensures))
 
 pub returns-in-Some-clause-found : goal.returns-in-Some-clause-found
 returns-in-Some-clause-found g c =

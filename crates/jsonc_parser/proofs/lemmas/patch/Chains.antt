@@ -17,6 +17,7 @@ use Rattle.jsonc_layout.specs.declared.input.value.CstInputValue.{CstInputValue}
 use Rattle.jsonc_layout.specs.input.Views.{chars_of, plain}
 use Rattle.jsonc_sound.specs.Documents.{Shows}
 use Rattle.jsonc_run.specs.declared.edit.Edit.{Edit}
+use Rattle.jsonc_run.specs.Edits.{operation_of, remove, unsorted, PlainEdit}
 use Rattle.jsonc_run.specs.promise.Asked.{none_asked, one_asked, EditsTo}
 use Rattle.jsonc_run.proofs.lemmas.promise.Leads.{shown_are_documents}
 use Rattle.jsonc_cst.specs.declared.cst.CstRootNode.{CstRootNode}
@@ -30,13 +31,15 @@ use Rattle.jsonc_parser.specs.patch.Equality.{AreEqual, HasUniqueNames}
 use Rattle.jsonc_parser.specs.patch.Numbers.{SameNumber}
 use Rattle.jsonc_parser.specs.declared.patch.pointer.Pointer.{Pointer}
 use Rattle.jsonc_parser.specs.patch.Operations as value
-use Rattle.jsonc_parser.specs.patch.Operations.{none_made, one_made, moved, stays, IsWithinObject, LeadsElsewhere, MakesAll, Makes, Moves}
+use Rattle.jsonc_parser.specs.patch.MadeBy as by
+use Rattle.jsonc_parser.specs.patch.Operations.{none_made, one_made, moved, stays, IsWithinObject, LeadInOrder, LeadsElsewhere, MakesAll, Makes, Moves}
 use Rattle.jsonc_parser.specs.patch.References.{IsItem, this_item, later_item, IsOnly, this_only, later_only, Refers, RefersTo, whole, to_member, to_element}
 use Rattle.jsonc_parser.specs.declared.patch.operation.Operation.{Operation}
 use Rattle.jsonc_parser.specs.declared.patch.operation.Operation.TheVariants.{Move}
 use Rattle.jsonc_parser.specs.declared.patch.apply.PatchFault.{PatchFault}
 use Rattle.jsonc_parser.specs.declared.patch.making.PatchCause.{PatchCause}
 use Rattle.jsonc_parser.proofs.lemmas.patch.Edited.{kept_same}
+use Rattle.jsonc_parser.proofs.lemmas.patch.Evaluation.{refers_to_one}
 use Rattle.jsonc_parser.proofs.lemmas.patch.Failing.{memory_cause, unedited}
 use Rattle.jsonc_parser.proofs.lemmas.patch.Operating.{nothing_more}
 use Rattle.jsonc_parser.proofs.lemmas.patch.Unique.{unique_collapse}
@@ -45,13 +48,13 @@ pub joined : {A : Type 0} {d e f : Document} {es fs : List (Edit A)} → EditsTo
 joined (none_asked one) k = k
 joined (one_asked order op place asks run rest) k = one_asked order op place asks run (joined rest k)
 
-all_more : {os : List value.Operation} {w x y : Option Plain} (o : value.Operation) → MakesAll os w x → Makes o x y → MakesAll (os ++ o ∷ []) w y
+all_more : {S : Type 0} {Leads : value.Operation → S → S → Type 0} {os : List value.Operation} {w x y : S} (o : value.Operation) → LeadInOrder Leads os w x → Leads o x y → LeadInOrder Leads (os ++ o ∷ []) w y
 all_more o none_made m = one_made m none_made
 all_more o (one_made n rest) m = one_made n (all_more o rest m)
 
 module _ {A : Type 0} (old : CstRootNode A) where
   pub patched_none : PatchesWhatShown old [] old
-  patched_none d shown fits = (d, shown, record { edits = []; edited = none_asked (shown_are_documents (tree_of old) d shown); options = refl; made = none_made; within = λ h. h })
+  patched_none d shown fits = (d, shown, record { steps = none_made; options = refl; made = none_made; within = λ h. h })
 
   pub patched_more : (now new : CstRootNode A) (operations : List (Operation A)) (operation : Operation A) → PatchesWhatShown old operations now → MakesWhatShown now (asked operation) (λ o. FitsIn o operation) new
       → PatchesWhatShown old (operations ++ operation ∷ []) new
@@ -63,8 +66,7 @@ module _ {A : Type 0} (old : CstRootNode A) where
         s.0,
         s.1,
         record {
-          edits = p.2.edits ++ s.2.edits;
-          edited = joined p.2.edited s.2.edited;
+          steps = subst (λ l. LeadInOrder (IsMade A) l d s.0) (sym (map-append asked operations (operation ∷ []))) (all_more (asked operation) p.2.steps s.2);
           options = s.2.options ∙ p.2.options;
           within = λ h. s.2.within (p.2.within h);
           made = subst (λ l. MakesAll l d.value s.0.value) (sym (map-append asked operations (operation ∷ []))) (all_more (asked operation) p.2.made s.2.made);
@@ -83,7 +85,7 @@ module _ {A : Type 0} (old : CstRootNode A) where
   patched_first mid new operation rest first more d shown fits =
       let f = first d shown (All-head (FitsIn d.options) operation rest fits) in
       let m = more f.0 f.1 (subst (λ (o : Options). All (FitsIn o) rest) (sym f.2.options) (All-tail (FitsIn d.options) operation rest fits)) in
-      (m.0, m.1, record { edits = f.2.edits ++ m.2.edits; edited = joined f.2.edited m.2.edited; options = m.2.options ∙ f.2.options; made = one_made f.2.made m.2.made; within = λ h. m.2.within (f.2.within h) })
+      (m.0, m.1, record { steps = one_made f.2 m.2.steps; options = m.2.options ∙ f.2.options; made = one_made f.2.made m.2.made; within = λ h. m.2.within (f.2.within h) })
 
   -- one operation is a patch of it alone
   pub patched_once : (new : CstRootNode A) (operation : Operation A) → MakesWhatShown old (asked operation) (λ o. FitsIn o operation) new → PatchesWhatShown old (operation ∷ []) new
@@ -145,13 +147,22 @@ taken_fits doc tokens taken d shown (x, is, path, refers) =
     let all : IsOfNumbers d.options x = document_numbers d.options d.text x (subst (λ w. IsDocument d.options d.text w) is one.says) in
     inner_numbers d.options refers all
 
+-- the one edit by which a value was added, or removed
+added_by : {w : Option Plain} {tokens : List (List ℕ)} {v : Plain} {es : List PlainEdit} → by.IsMadeBy w (value.add tokens v) es → (e : PlainEdit) × (es ≡ e ∷ []) × by.IsAddedBy w v tokens e
+added_by (by.adds {e = e} a) = (e, refl, a)
+
+removed_by : {w : Option Plain} {tokens : List (List ℕ)} {es : List PlainEdit} → by.IsMadeBy w (value.remove tokens) es → (path : List ℕ) × (x : Plain) × (es ≡ remove path ∷ []) × value.RefersAlong w tokens path x
+removed_by (by.removes {path = path} {x = x} along) = (path, x, refl, along)
+
 module _ {A : Type 0} (old new : CstRootNode A) (from to : List (List ℕ)) (taken : CstInputValue A) (takes : IsOfShown old (λ d. RefersTo d.value from (plain taken))) where
   -- a copy of what is there is added
   pub copied : MakesWhatShown old (value.add to (plain taken)) (λ o. IsOfNumbers o (plain taken)) new → MakesWhatShown old (value.copy from to) (λ o. Unit {0}) new
   copied step d shown fit =
       let t = takes d shown in
       let s = step d shown (taken_fits old from (plain taken) d shown t) in
-      (s.0, s.1, record { edits = s.2.edits; edited = s.2.edited; options = s.2.options; made = (plain taken, t, s.2.made); within = s.2.within })
+      let a = added_by s.2.own in
+      let own : by.IsMadeBy d.value (value.copy from to) (map (operation_of unsorted) s.2.edits) = subst (by.IsMadeBy d.value (value.copy from to)) (sym a.1) (by.copies t a.2) in
+      (s.0, s.1, record { edits = s.2.edits; own = own; edited = s.2.edited; options = s.2.options; made = (plain taken, t, s.2.made); within = s.2.within })
 
   -- it leaves, and is added
   pub moved_so : LeadsElsewhere from to → IsOfShown old (λ d. ¬ (IsWithinObject from to d.value)) → (mid : CstRootNode A) → MakesWhatShown old (value.remove from) (λ o. Unit {0}) mid → MakesWhatShown mid (value.add to (plain taken)) (λ o. IsOfNumbers o (plain taken)) new
@@ -159,11 +170,16 @@ module _ {A : Type 0} (old new : CstRootNode A) (from to : List (List ℕ)) (tak
   moved_so elsewhere apart mid first second d shown fit =
       let t = takes d shown in
       let f = first d shown tt in
-      let s = second f.0 f.1 (subst (λ o. IsOfNumbers o (plain taken)) (sym f.2.options) (taken_fits old from (plain taken) d shown t)) in (
+      let s = second f.0 f.1 (subst (λ o. IsOfNumbers o (plain taken)) (sym f.2.options) (taken_fits old from (plain taken) d shown t)) in
+      let r = removed_by f.2.own in
+      let a = added_by s.2.own in
+      let same : plain taken ≡ r.1 = refers_to_one d.value from (plain taken) r.1 t (r.3.0, r.3.1, r.0, r.3.2) in
+      let added : by.IsAddedBy f.0.value r.1 to a.0 = subst (λ k. by.IsAddedBy f.0.value k to a.0) same a.2 in (
         s.0,
         s.1,
         record {
           edits = f.2.edits ++ s.2.edits;
+          own = subst (by.IsMadeBy d.value (value.move from to)) (sym (map-append (operation_of unsorted) f.2.edits s.2.edits ∙ (λ i. r.2 i ++ a.1 i))) (by.moves elsewhere (apart d shown) r.3 f.2.made added);
           edited = joined f.2.edited s.2.edited;
           within = λ h. s.2.within (f.2.within h);
           options = s.2.options ∙ f.2.options;
@@ -172,16 +188,19 @@ module _ {A : Type 0} (old new : CstRootNode A) (from to : List (List ℕ)) (tak
       )
 
 -- nothing is done
-pub unchanged : {A : Type 0} (old new : CstRootNode A) (operation : value.Operation) (Fit : Options → Type 0) → tree_of new ≡ tree_of old → IsOfShown old (λ d. Makes operation d.value d.value) → MakesWhatShown old operation Fit new
-unchanged {A} old new operation Fit same makes d shown fit =
-    (d, subst (Shows d) (sym same) shown, record { edits = []; edited = none_asked (shown_are_documents (tree_of old) d shown); options = refl; made = makes d shown; within = λ h. h })
+pub unchanged : {A : Type 0} (old new : CstRootNode A) (operation : value.Operation) (Fit : Options → Type 0) → tree_of new ≡ tree_of old → ((w : Option Plain) → by.IsMadeBy w operation []) → IsOfShown old (λ d. Makes operation d.value d.value)
+    → MakesWhatShown old operation Fit new
+unchanged {A} old new operation Fit same own makes d shown fit =
+    (d, subst (Shows d) (sym same) shown, record { edits = []; own = own d.value; edited = none_asked (shown_are_documents (tree_of old) d shown); options = refl; made = makes d shown; within = λ h. h })
 
 -- where a value is moved to its own place
-pub stays_there : (from to : List (List ℕ)) (w : Option Plain) (x : Plain) → LeadsOn from to → length from ≡ length to → RefersTo w from x → Moves from to w w
-stays_there from to w x on count r =
+pub same_place : (from to : List (List ℕ)) → LeadsOn from to → length from ≡ length to → from ≡ to
+same_place from to on count =
     let rest : on.0 ≡ [] = nothing_more from on.0 (count ∙ ap length on.1) in
-    let same : to ≡ from = on.1 ∙ ap (λ l. from ++ l) rest ∙ append-nil from in
-    subst (λ t. Moves from t w w) (sym same) (stays r)
+    sym (on.1 ∙ ap (λ l. from ++ l) rest ∙ append-nil from)
+
+pub stays_there : (from to : List (List ℕ)) (w : Option Plain) (x : Plain) → LeadsOn from to → length from ≡ length to → RefersTo w from x → Moves from to w w
+stays_there from to w x on count r = subst (λ t. Moves from t w w) (same_place from to on count) (stays r)
 
 -- the tokens of one pointer are the first of another's, or not
 pub leads_told : (front from other to : List (List ℕ)) (b : Bool) → front ≡ from → other ≡ to → Decides b (LeadsOn front other) → Decides b (LeadsOn from to)
@@ -213,7 +232,7 @@ leads_one (x ∷ front) (y ∷ tokens) (rest, is) zero a b h = let same : chars_
 leads_one (x ∷ front) (y ∷ tokens) (rest, is) (suc k) a b h = let tail : names_of tokens ≡ names_of front ++ rest = cc in leads_one front tokens (rest, tail) k a b (omega (arith, h))
 
 pub leads_elsewhere : (from to : List (List ℕ)) → (LeadsOn from to → ⊥) → LeadsElsewhere from to
-leads_elsewhere from to none token rest is = none (token ∷ rest, is)
+leads_elsewhere from to none rest is = none (rest, is)
 
 -- the tokens of a pointer: all but the last, and the last; or none
 pub all_but_last : {A : Type 0} (all : List (List ℕ)) (names front : List (String A)) (last : String A) → names_of names ≡ all → names ≡ front ++ last ∷ [] → all ≡ names_of front ++ chars_of last ∷ []
@@ -264,12 +283,19 @@ module _ {A E : Type 0} (old new : CstRootNode A) (r : Result (Unit {0}) E) wher
       go (Ok x) = tt
       go (Err e) = λ one. let wrong : false ≡ true = sym (ap is_one_edit is) ∙ one in cc
 
-  pub tested : (operation : value.Operation) (Fit : Options → Type 0) → tree_of new ≡ tree_of old → OnOk r (IsOfShown old (λ d. Makes operation d.value d.value)) → OnOk r (MakesWhatShown old operation Fit new)
-  tested operation Fit same made = go r made
+  pub tested : (tokens : List (List ℕ)) (v : Plain) (Fit : Options → Type 0) → tree_of new ≡ tree_of old → OnOk r (IsOfShown old (λ d. value.Tests tokens v d.value d.value)) → OnOk r (MakesWhatShown old (value.test tokens v) Fit new)
+  tested tokens v Fit same made = go r made
     where
-      go : (r : Result (Unit {0}) E) → OnOk r (IsOfShown old (λ d. Makes operation d.value d.value)) → OnOk r (MakesWhatShown old operation Fit new)
-      go (Ok x) made = unchanged old new operation Fit same made
+      go : (r : Result (Unit {0}) E) → OnOk r (IsOfShown old (λ d. value.Tests tokens v d.value d.value)) → OnOk r (MakesWhatShown old (value.test tokens v) Fit new)
+      go (Ok x) made = unchanged old new (value.test tokens v) Fit same (λ w. by.tests) made
       go (Err e) made = tt
+
+  pub stayed : (from to : List (List ℕ)) (Fit : Options → Type 0) → tree_of new ≡ tree_of old → OnOk r (from ≡ to) → OnOk r (IsOfShown old (λ d. Moves from to d.value d.value)) → OnOk r (MakesWhatShown old (value.move from to) Fit new)
+  stayed from to Fit same there made = go r there made
+    where
+      go : (r : Result (Unit {0}) E) → OnOk r (from ≡ to) → OnOk r (IsOfShown old (λ d. Moves from to d.value d.value)) → OnOk r (MakesWhatShown old (value.move from to) Fit new)
+      go (Ok x) there made = unchanged old new (value.move from to) Fit same (λ w. subst (λ t. by.IsMadeBy w (value.move from t) []) there by.stays) made
+      go (Err e) there made = tt
 
 -- what is said of one operation, of a patch of it alone; and of a copy, of the document
 module _ {A : Type 0} (old new : CstRootNode A) where

@@ -1,5 +1,5 @@
 -- One edit of a document, as an operation of a patch.
-use Rattle.std.proofs.Common.{ℕ, ◌≡◌, ◌≤◌, ◌∙◌, ◌++◌, ◌⊎◌, inl, inr, sym, ap, subst, refl, List, [], ◌∷◌, length, min, true, Option, Some, None, Result, Ok, Err, OnErr, arith}
+use Rattle.std.proofs.Common.{ℕ, ◌≡◌, ◌≤◌, ◌∙◌, ◌++◌, ◌⊎◌, inl, inr, sym, ap, subst, refl, List, [], ◌∷◌, length, map, min, true, Option, Some, None, Result, Ok, Err, OnErr, arith}
 use Rattle.std.specs.declared.string.String.{String}
 use Rattle.std.specs.declared.vec.Vec.{Vec}
 use Rattle.jsonc_text.specs.Documents.{Document}
@@ -40,7 +40,8 @@ use Rattle.jsonc_parser.specs.patch.Applied.{IsEditDone, AddsMember, AppendsTo, 
 use Rattle.jsonc_parser.specs.patch.Found.{IsOfShown, RefersToNode, RefersToNothing}
 use Rattle.jsonc_parser.specs.patch.Operations as value
 use Rattle.jsonc_parser.specs.patch.Operations.{as_whole, in_member, Adds}
-use Rattle.jsonc_parser.specs.patch.References.{IsIndex}
+use Rattle.jsonc_parser.specs.patch.MadeBy as by
+use Rattle.jsonc_parser.specs.patch.References.{IsIndex, Refers, RefersTo}
 use Rattle.jsonc_parser.proofs.lemmas.paths.EditOutcome.{whole_no_commas}
 use Rattle.jsonc_parser.proofs.lemmas.patch.Made.{led, makes_so, options_so, root_options, root_set}
 use Rattle.jsonc_parser.proofs.lemmas.patch.Nodes.{array_value, its, there}
@@ -56,7 +57,7 @@ module _ {A : Type 0} (old new : CstRootNode A) (tree : IsTree (nodes_of old)) (
         let edit : Edit A = Remove path in
         let l = led edit (nodes_of old) (nodes_of new) tree after made d shown tt in
         let w = referred d shown in
-        (l.e, l.shown, record { edits = edit ∷ []; edited = l.edited; within = l.within; options = options_so d l.e l.op (texts.remove path.items) l.asks l.options; made = removed d (nodes_of old) tokens leads.0 w.0 path.items w.1 l.e.value (makes_so d l.e l.op (texts.remove path.items) l.asks l.makes).1 })
+        (l.e, l.shown, record { edits = edit ∷ []; own = by.removes (stands d (nodes_of old) tokens leads.0 w.0 path.items w.1); edited = l.edited; within = l.within; options = options_so d l.e l.op (texts.remove path.items) l.asks l.options; made = removed d (nodes_of old) tokens leads.0 w.0 path.items w.1 l.e.value (makes_so d l.e l.op (texts.remove path.items) l.asks l.makes).1 })
 
     module _ (v : CstInputValue A) where
       pub replaces_so : IsEditDone old (Replace path v) new → MakesWhatShown old (value.replace tokens (plain v)) (λ o. IsOfNumbers o (plain v)) new
@@ -65,7 +66,7 @@ module _ {A : Type 0} (old new : CstRootNode A) (tree : IsTree (nodes_of old)) (
           let l = led edit (nodes_of old) (nodes_of new) tree after made d shown fit in
           let w = referred d shown in
           let m = makes_so d l.e l.op (texts.replace path.items (plain v)) l.asks l.makes in
-          (l.e, l.shown, record { edits = edit ∷ []; edited = l.edited; within = l.within; options = options_so d l.e l.op (texts.replace path.items (plain v)) l.asks l.options; made = replaced d (nodes_of old) tokens leads.0 w.0 path.items w.1 m.0 (plain v) l.e.value m.1.1 })
+          (l.e, l.shown, record { edits = edit ∷ []; own = by.replaces (stands d (nodes_of old) tokens leads.0 w.0 path.items w.1); edited = l.edited; within = l.within; options = options_so d l.e l.op (texts.replace path.items (plain v)) l.asks l.options; made = replaced d (nodes_of old) tokens leads.0 w.0 path.items w.1 m.0 (plain v) l.e.value m.1.1 })
 
       -- an element is inserted
       module _ (token : List ℕ) where
@@ -80,7 +81,9 @@ module _ {A : Type 0} (old new : CstRootNode A) (tree : IsTree (nodes_of old)) (
             let back : List Named = m.1 in
             let was = was_referred d (nodes_of old) tokens leads.0 w.0 path.items w.1 (of an_array (front ++ back)) (of an_array (front ++ entry [] (plain v) ∷ back)) l.e.value m.3.0 in
             let end = last_item d (nodes_of old) tokens leads.0 w.0 path.items w.1 l.asks.0 l.asks.1 front back l.asks.2 l.asks.3 was m.2 in
-            (l.e, l.shown, record { edits = edit ∷ []; edited = l.edited; within = l.within; options = options_so d l.e l.op op l.asks.4 l.options; made = element_added d (nodes_of old) tokens leads.0 w.0 path.items w.1 (plain v) l.e.value token front back m.3.0 (inr (is, end)) })
+            let holder : value.RefersAlong d.value tokens path.items (array (entries.items (front ++ back))) = subst (value.RefersAlong d.value tokens path.items) was (stands d (nodes_of old) tokens leads.0 w.0 path.items w.1) in
+            let own : by.IsMadeBy d.value (value.add (tokens ++ token ∷ []) (plain v)) (map (operation_of unsorted) (edit ∷ [])) = subst (λ t. by.IsMadeBy d.value (value.add (tokens ++ t ∷ []) (plain v)) (map (operation_of unsorted) (edit ∷ []))) (sym is) (by.adds (by.at_end holder)) in
+            (l.e, l.shown, record { edits = edit ∷ []; own = own; edited = l.edited; within = l.within; options = options_so d l.e l.op op l.asks.4 l.options; made = element_added d (nodes_of old) tokens leads.0 w.0 path.items w.1 (plain v) l.e.value token front back m.3.0 (inr (is, end)) })
 
         pub inserts_so : (index : ℕ) → content_at (nodes_of old) leads.0 ≡ content.array → IsIndex token index → index ≤ length (elements_at (nodes_of old) leads.0)
             → IsEditDone old (InsertElement path index v) new → MakesWhatShown old (value.add (tokens ++ token ∷ []) (plain v)) (λ o. IsOfNumbers o (plain v)) new
@@ -100,7 +103,8 @@ module _ {A : Type 0} (old new : CstRootNode A) (tree : IsTree (nodes_of old)) (
             let all : length (front ++ back) ≡ length (elements_at ns leads.0) = sym (counted (front ++ back)) ∙ ap item_count (sym vs) ∙ count in
             let bound : length front ≡ min index (length (front ++ back)) = m.2 in
             let place : index ≡ length front = omega (arith, bound, all, within) in
-            (l.e, l.shown, record { edits = edit ∷ []; edited = l.edited; within = l.within; options = options_so d l.e l.op op l.asks l.options; made = element_added d ns tokens leads.0 w.0 path.items w.1 (plain v) l.e.value token front back m.3.0 (inl (subst (IsIndex token) place is)) })
+            let holder : value.RefersAlong d.value tokens path.items (array (entries.items (front ++ back))) = subst (value.RefersAlong d.value tokens path.items) was (stands d ns tokens leads.0 w.0 path.items w.1) in
+            (l.e, l.shown, record { edits = edit ∷ []; own = by.adds (by.at_index holder is); edited = l.edited; within = l.within; options = options_so d l.e l.op op l.asks l.options; made = element_added d ns tokens leads.0 w.0 path.items w.1 (plain v) l.e.value token front back m.3.0 (inl (subst (IsIndex token) place is)) })
 
       -- a member is inserted
       pub member_so : (name : String A) → IsOfShown old (λ d. RefersToNothing d (tokens ++ chars_of name ∷ [])) → IsEditDone old (AppendProperty path name v) new
@@ -115,7 +119,9 @@ module _ {A : Type 0} (old new : CstRootNode A) (tree : IsTree (nodes_of old)) (
           let back : List Named = m.1 in
           let was = was_referred d (nodes_of old) tokens leads.0 w.0 path.items w.1 (of an_object (front ++ back)) (of an_object (front ++ entry (chars_of name) (plain v) ∷ back)) l.e.value m.3.0 in
           let end = last_member d (nodes_of old) tokens leads.0 w.0 path.items w.1 l.asks.0 l.asks.1 front back l.asks.2 l.asks.3 was m.2 in
-          (l.e, l.shown, record { edits = edit ∷ []; edited = l.edited; within = l.within; options = options_so d l.e l.op op l.asks.4 l.options; made = member_added d (nodes_of old) tokens leads.0 w.0 path.items w.1 (plain v) l.e.value (chars_of name) front back end m.3.0 (none d shown) })
+          let holder : value.RefersAlong d.value tokens path.items (object (entries.members (front ++ back))) = subst (value.RefersAlong d.value tokens path.items) was (stands d (nodes_of old) tokens leads.0 w.0 path.items w.1) in
+          let nothing = none d shown in
+          (l.e, l.shown, record { edits = edit ∷ []; own = by.adds (by.as_property (chars_of name) holder (nothing.nothing, nothing.unique)); edited = l.edited; within = l.within; options = options_so d l.e l.op op l.asks.4 l.options; made = member_added d (nodes_of old) tokens leads.0 w.0 path.items w.1 (plain v) l.e.value (chars_of name) front back end m.3.0 (none d shown) })
 
   -- the value of a member is replaced
   pub in_member_so : (path : Vec ℕ A) (tokens : List (List ℕ)) (name : List ℕ) → LeadsOver old (tokens ++ name ∷ []) path.items → (n : ℕ) → content_at (nodes_of old) n ≡ content.object → IsOfShown old (λ d. RefersToNode d (nodes_of old) tokens n) → (v : CstInputValue A)
@@ -133,7 +139,8 @@ module _ {A : Type 0} (old new : CstRootNode A) (tree : IsTree (nodes_of old)) (
       let was : w.0.v ≡ m.0 = was_referred d ns (tokens ++ name ∷ []) leads.0 w.0 path.items w.1 m.0 (plain v) l.e.value m.1.1 in
       let place = stands d ns (tokens ++ name ∷ []) leads.0 w.0 path.items w.1 in
       let member : Adds (plain v) (tokens ++ name ∷ []) d.value l.e.value = in_member name (list_of_members ms.0) (subst (value.RefersAlong d.value tokens c.path) object_so (stands d ns tokens n c c.path refl)) place (subst (λ k. Becomes k (plain v) path.items d.value l.e.value) (sym was) m.1.1) in
-      (l.e, l.shown, record { edits = edit ∷ []; edited = l.edited; within = l.within; options = options_so d l.e l.op op l.asks l.options; made = member })
+      let holder : RefersTo d.value tokens (object ms.0) = (c.value, c.is, c.path, subst (Refers c.value tokens c.path) ms.1 c.refers) in
+      (l.e, l.shown, record { edits = edit ∷ []; own = by.adds (by.as_value name holder place); edited = l.edited; within = l.within; options = options_so d l.e l.op op l.asks l.options; made = member })
 
   -- the document's value is set
   pub whole_so : (v : CstInputValue A) → IsEditDone old (SetRoot v) new → MakesWhatShown old (value.add [] (plain v)) (λ o. IsOfNumbers o (plain v)) new
@@ -141,7 +148,7 @@ module _ {A : Type 0} (old new : CstRootNode A) (tree : IsTree (nodes_of old)) (
       let edit : Edit A = SetRoot v in
       let l = led edit (nodes_of old) (nodes_of new) tree after made d shown fit in
       let o : l.e.options ≡ d.options = l.options ∙ root_options d.options (plain v) d.value l.op l.asks in
-      (l.e, l.shown, record { edits = edit ∷ []; edited = l.edited; within = l.within; options = o; made = subst (Adds (plain v) [] d.value) (sym (root_set d l.e (plain v) d.value l.op l.asks l.makes)) as_whole })
+      (l.e, l.shown, record { edits = edit ∷ []; own = by.adds by.as_root; edited = l.edited; within = l.within; options = o; made = subst (Adds (plain v) [] d.value) (sym (root_set d l.e (plain v) d.value l.op l.asks l.makes)) as_whole })
 
 -- what is kept
 pub kept_same : {A : Type 0} (doc : CstRootNode A) → IsKept doc doc

@@ -17,10 +17,7 @@ use Rattle.jsonc_layout.specs.declared.input.value.CstInputValue.{CstInputValue}
 use Rattle.jsonc_layout.specs.input.Views.{chars_of, members_plain, plain}
 use Rattle.jsonc_sound.specs.Documents.{Shows}
 use Rattle.jsonc_sound.specs.Sound.{HasValue}
-use Rattle.jsonc_run.specs.declared.edit.Edit.{Edit}
-use Rattle.jsonc_run.specs.promise.Asked.{none_asked, EditsTo}
 use Rattle.jsonc_run.specs.texts.Entries.{members, Named}
-use Rattle.jsonc_run.proofs.lemmas.promise.Leads.{shown_are_documents}
 use Rattle.jsonc_cst.specs.declared.cst.CstRootNode.{CstRootNode}
 use Rattle.jsonc_cst.specs.declared.cst.node.CstNode.{CstNode}
 use Rattle.jsonc_cst.specs.declared.cst.node.CstObject.{CstObject}
@@ -31,12 +28,11 @@ use Rattle.jsonc_parser.specs.patch.Applied.{FailsWhatShown, HasCause, IsCause, 
 use Rattle.jsonc_parser.specs.patch.Equality.{AreEqual, HasUniqueNames}
 use Rattle.jsonc_parser.specs.patch.Failing.{ReferToNothing}
 use Rattle.jsonc_parser.specs.patch.Found.{FindFails, Finds, IsOfShown, ReadFails, Reads, RefersToNode, RefersToNothing}
-use Rattle.jsonc_parser.specs.patch.Merged.{IsMergeFault, MergesWhatShown, MergeStopsWhatShown}
+use Rattle.jsonc_parser.specs.patch.Merged.{IsMergeFault, MembersMergeIn, MergesIn, MergesWhatShown, MergeStopsWhatShown}
 use Rattle.jsonc_parser.specs.patch.MergeSteps.{at_root, Drops, FailsToMerge, FailsToMergeAll, FailsToSet, HasNameTwice, IsMergeCause, IsPlace, IsReached, IsReportedAs, IsStop, IsTwice, MergesNamed, ReachesWhatShown, RefersToObject, Sets}
-use Rattle.jsonc_parser.specs.patch.Merging.{inside, made_of, members_made, GoesInto, IsThere, Merges, MembersMerge, Stops}
+use Rattle.jsonc_parser.specs.patch.Merging.{inside, made_of, members_made, GoesInto, IsThere, MembersMerge, Stops}
 use Rattle.jsonc_parser.specs.patch.Merging as merging
 use Rattle.jsonc_parser.specs.patch.Operations as value
-use Rattle.jsonc_parser.specs.patch.Operations.{Adds, Makes, Removes}
 use Rattle.jsonc_parser.specs.patch.References.{FailsAt, Refers, RefersTo}
 use Rattle.jsonc_parser.specs.declared.patch.making.PatchCause.{PatchCause}
 use Rattle.jsonc_parser.specs.declared.patch.making.PatchCause.TheVariants as causes
@@ -45,31 +41,29 @@ use Rattle.jsonc_parser.specs.declared.patch.merging.MergeFault.TheVariants as f
 use Rattle.jsonc_parser.specs.declared.patch.reference.FindError.{FindError}
 use Rattle.jsonc_parser.specs.declared.patch.reference.FindError.TheVariants as errors
 use Rattle.jsonc_text.specs.declared.edit.EditError.TheVariants.{NestingDepthExceeded, OutOfMemory}
-use Rattle.jsonc_parser.proofs.lemmas.patch.Chains.{joined}
 use Rattle.jsonc_parser.proofs.lemmas.patch.Evaluation.{refers_to_one}
 use Rattle.jsonc_parser.proofs.lemmas.patch.Exclusive.{fails_whole}
-use Rattle.jsonc_parser.proofs.lemmas.patch.Merges.{and_none, and_then, goes_nowhere, has_place, is_put, made_then, merge_more, named_member, no_object_there, nothing_there, number_made, numbers_before, numbers_behind, one_kept, one_left_out, place_after, stands_there, stops_at, there_told}
+use Rattle.jsonc_parser.proofs.lemmas.patch.Merges.{and_none, and_then, goes_nowhere, has_place, is_put, made_then, members_merge_value_of, merge_more, merges_value_of, named_member, no_object_there, nothing_there, number_made, numbers_before, numbers_behind, one_kept, one_left_out, place_after, stands_there, stops_at, there_told}
 use Rattle.jsonc_parser.proofs.lemmas.patch.Nodes.{its, object_content}
 use Rattle.jsonc_parser.proofs.lemmas.patch.Steps.{no_object_by, object_by}
 
--- a lead to other values, and nothing at all
+-- a lead to other documents, and nothing at all
 module _ {A : Type 0} (old new : CstRootNode A) where
-  pub reached_as : (Fit Other : Options → Type 0) (Leads More : Option Plain → Option Plain → Type 0) → ReachesWhatShown old Fit Leads new → ((o : Options) → Other o → Fit o) → ((d : Document) → Shows d (tree_of old) → (y : Option Plain) → Leads d.value y → More d.value y)
+  pub reached_as : (Fit Other : Options → Type 0) (Leads More : Document → Document → Type 0) → ReachesWhatShown old Fit Leads new → ((o : Options) → Other o → Fit o) → ((d : Document) → Shows d (tree_of old) → (e : Document) → Leads d e → More d e)
       → ReachesWhatShown old Other More new
   reached_as Fit Other Leads More reached fits leads d shown fit =
-      let r = reached d shown (fits d.options fit) in (r.0, r.1, record { edits = r.2.edits; edited = r.2.edited; options = r.2.options; leads = leads d shown r.0.value r.2.leads; within = r.2.within })
+      let r = reached d shown (fits d.options fit) in (r.0, r.1, record { options = r.2.options; leads = leads d shown r.0 r.2.leads; within = r.2.within })
 
-  pub reached_same : (Fit : Options → Type 0) (Leads : Option Plain → Option Plain → Type 0) → tree_of new ≡ tree_of old → ((d : Document) → Shows d (tree_of old) → Leads d.value d.value) → ReachesWhatShown old Fit Leads new
-  reached_same Fit Leads same leads d shown fit =
-      (d, subst (Shows d) (sym same) shown, record { edits = []; edited = none_asked (shown_are_documents (tree_of old) d shown); options = refl; leads = leads d shown; within = λ h. h })
+  pub reached_same : (Fit : Options → Type 0) (Leads : Document → Document → Type 0) → tree_of new ≡ tree_of old → ((d : Document) → Shows d (tree_of old) → Leads d d) → ReachesWhatShown old Fit Leads new
+  reached_same Fit Leads same leads d shown fit = (d, subst (Shows d) (sym same) shown, record { options = refl; leads = leads d shown; within = λ h. h })
 
-  pub reached_by : (operation : value.Operation) (Fit Other : Options → Type 0) (Leads : Option Plain → Option Plain → Type 0) → MakesWhatShown old operation Fit new → ((o : Options) → Other o → Fit o)
-      → ((d : Document) → Shows d (tree_of old) → (y : Option Plain) → Makes operation d.value y → Leads d.value y) → ReachesWhatShown old Other Leads new
+  pub reached_by : (operation : value.Operation) (Fit Other : Options → Type 0) (Leads : Document → Document → Type 0) → MakesWhatShown old operation Fit new → ((o : Options) → Other o → Fit o)
+      → ((d : Document) → Shows d (tree_of old) → (e : Document) → IsMade A operation d e → Leads d e) → ReachesWhatShown old Other Leads new
   reached_by operation Fit Other Leads made fits leads d shown fit =
-      let m = made d shown (fits d.options fit) in (m.0, m.1, record { edits = m.2.edits; edited = m.2.edited; options = m.2.options; leads = leads d shown m.0.value m.2.made; within = m.2.within })
+      let m = made d shown (fits d.options fit) in (m.0, m.1, record { options = m.2.options; leads = leads d shown m.0 m.2; within = m.2.within })
 
-  pub merges_shown : (p : Plain) → ReachesWhatShown old (λ o. IsOfNumbers o p) (Merges [] p) new → MergesWhatShown old p new
-  merges_shown p reached d shown fit = let r = reached d shown fit in (r.0, r.1, record { edits = r.2.edits; edited = r.2.edited; options = r.2.options; merged = r.2.leads; within = r.2.within })
+  pub merges_shown : (p : Plain) → ReachesWhatShown old (λ o. IsOfNumbers o p) (MergesIn A [] p) new → MergesWhatShown old p new
+  merges_shown p reached d shown fit = let r = reached d shown fit in (r.0, r.1, record { steps = r.2.leads; options = r.2.options; merged = merges_value_of r.2.leads; within = r.2.within })
 
 -- so many members are merged
 module _ {A : Type 0} where
@@ -116,19 +110,19 @@ module _ {A : Type 0} where
 
   module _ (old : CstRootNode A) (tokens : List (List ℕ)) (ps : List (String A × CstInputValue A)) where
     abbrev pub MergedSoFar : ℕ → CstRootNode A → Type 0
-    MergedSoFar k now = ReachesWhatShown old (λ o. AreNamedOfNumbers o (members_plain (take k ps))) (MembersMerge tokens (members_plain (take k ps))) now
+    MergedSoFar k now = ReachesWhatShown old (λ o. AreNamedOfNumbers o (members_plain (take k ps))) (MembersMergeIn A tokens (members_plain (take k ps))) now
 
     pub merged_none : MergedSoFar 0 old
-    merged_none = reached_same old old (λ o. AreNamedOfNumbers o no_members) (MembersMerge tokens no_members) refl (λ d shown. merging.no_more)
+    merged_none = reached_same old old (λ o. AreNamedOfNumbers o no_members) (MembersMergeIn A tokens no_members) refl (λ d shown. merging.no_more)
 
-    pub merged_all : (k : ℕ) (now : CstRootNode A) → length ps ≤ k → MergedSoFar k now → ReachesWhatShown old (λ o. AreNamedOfNumbers o (members_plain ps)) (MembersMerge tokens (members_plain ps)) now
-    merged_all k now h so_far = subst (λ (l : List (String A × CstInputValue A)). ReachesWhatShown old (λ o. AreNamedOfNumbers o (members_plain l)) (MembersMerge tokens (members_plain l)) now) (take_all k ps h) so_far
+    pub merged_all : (k : ℕ) (now : CstRootNode A) → length ps ≤ k → MergedSoFar k now → ReachesWhatShown old (λ o. AreNamedOfNumbers o (members_plain ps)) (MembersMergeIn A tokens (members_plain ps)) now
+    merged_all k now h so_far = subst (λ (l : List (String A × CstInputValue A)). ReachesWhatShown old (λ o. AreNamedOfNumbers o (members_plain l)) (MembersMergeIn A tokens (members_plain l)) now) (take_all k ps h) so_far
 
     module _ (k : ℕ) (now : CstRootNode A) (so_far : MergedSoFar k now) (q : String A × CstInputValue A) (h : k < length ps) (is : q ≡ get_or ps k q) where
       abbrev one : Members
       one = member (chars_of q.0) (plain q.1) no_members
 
-      pub merged_more : (new : CstRootNode A) → ReachesWhatShown now (λ o. IsOfNumbers o (plain q.1)) (MembersMerge tokens one) new → MergedSoFar (k + 1) new
+      pub merged_more : (new : CstRootNode A) → ReachesWhatShown now (λ o. IsOfNumbers o (plain q.1)) (MembersMergeIn A tokens one) new → MergedSoFar (k + 1) new
       merged_more new step d shown fit =
           let more = plain_more ps k q h is in
           let all : AreNamedOfNumbers d.options (and_then (members_plain (take k ps)) one) = subst (AreNamedOfNumbers d.options) more fit in
@@ -138,11 +132,9 @@ module _ {A : Type 0} where
             s.0,
             s.1,
             record {
-              edits = f.2.edits ++ s.2.edits;
-              edited = joined f.2.edited s.2.edited;
               within = λ h. s.2.within (f.2.within h);
               options = s.2.options ∙ f.2.options;
-              leads = subst (λ ms. MembersMerge tokens ms d.value s.0.value) (sym more) (merge_more one f.2.leads s.2.leads);
+              leads = subst (λ ms. MembersMergeIn A tokens ms d s.0) (sym more) (merge_more one f.2.leads s.2.leads);
             },
           )
 
@@ -160,7 +152,7 @@ module _ {A : Type 0} where
       stopped_there cause fails d shown fit o =
           (let n = numbers_there d.options fit in
           let f = so_far d shown n.0 in
-          let m : MembersMerge tokens (members (map entry_of (take k ps))) d.value f.0.value = subst (λ ms. MembersMerge tokens ms d.value f.0.value) (sym (as_entries (take k ps))) f.2.leads in
+          let m : MembersMerge tokens (members (map entry_of (take k ps))) d.value f.0.value = subst (λ ms. MembersMerge tokens ms d.value f.0.value) (sym (as_entries (take k ps))) (members_merge_value_of f.2.leads) in
           let place : IsPlace f.0.value (tokens ++ chars_of q.0 ∷ []) = place_after [] tokens (map entry_of (take k ps)) (map entry_of (drop (suc k) ps)) (entry_of q) d.value f.0.value o m in
           go cause f.0.value m (fails f.0 f.1 (subst (λ p. IsOfNumbers p (plain q.1)) (sym f.2.options) n.1) place))
         where
@@ -249,41 +241,41 @@ module _ {A : Type 0} where
 
 -- the patch is merged
 module _ {A : Type 0} (old new : CstRootNode A) (tokens : List (List ℕ)) where
-  pub merged_inside : (ms : Members) → IsOfShown old (λ d. RefersToObject d.value tokens) → ReachesWhatShown old (λ o. AreNamedOfNumbers o ms) (MembersMerge tokens ms) new → ReachesWhatShown old (λ o. IsOfNumbers o (object ms)) (Merges tokens (object ms)) new
-  merged_inside ms at reached = reached_as old new (λ o. AreNamedOfNumbers o ms) (λ o. IsOfNumbers o (object ms)) (MembersMerge tokens ms) (Merges tokens (object ms)) reached (λ o fit. fit) (λ d shown y m. inside (at d shown).1 m)
+  pub merged_inside : (ms : Members) → IsOfShown old (λ d. RefersToObject d.value tokens) → ReachesWhatShown old (λ o. AreNamedOfNumbers o ms) (MembersMergeIn A tokens ms) new → ReachesWhatShown old (λ o. IsOfNumbers o (object ms)) (MergesIn A tokens (object ms)) new
+  merged_inside ms at reached = reached_as old new (λ o. AreNamedOfNumbers o ms) (λ o. IsOfNumbers o (object ms)) (MembersMergeIn A tokens ms) (MergesIn A tokens (object ms)) reached (λ o fit. fit) (λ d shown e m. inside (at d shown).1 m)
 
   pub stopped_inside : (ms : Members) (cause : PatchCause A) → IsOfShown old (λ d. RefersToObject d.value tokens) → FailsToMergeAll old tokens ms cause → FailsToMerge old tokens (object ms) cause
   stopped_inside ms cause at fails d shown fit place = stop_inside tokens (object ms) d.value cause (fails d shown fit (at d shown))
 
-  pub merged_set : (p : Plain) → IsOfShown old (λ d. ¬ (GoesInto p tokens d.value)) → ReachesWhatShown old (λ o. IsOfNumbers o p) (Sets tokens p) new → ReachesWhatShown old (λ o. IsOfNumbers o p) (Merges tokens p) new
-  merged_set p none reached = reached_as old new (λ o. IsOfNumbers o p) (λ o. IsOfNumbers o p) (Sets tokens p) (Merges tokens p) reached (λ o fit. fit) (λ d shown y m. m (none d shown))
+  pub merged_set : (p : Plain) → IsOfShown old (λ d. ¬ (GoesInto p tokens d.value)) → ReachesWhatShown old (λ o. IsOfNumbers o p) (Sets A tokens p) new → ReachesWhatShown old (λ o. IsOfNumbers o p) (MergesIn A tokens p) new
+  merged_set p none reached = reached_as old new (λ o. IsOfNumbers o p) (λ o. IsOfNumbers o p) (Sets A tokens p) (MergesIn A tokens p) reached (λ o fit. fit) (λ d shown e m. m (none d shown))
 
-  pub set_same : (p : Plain) → tree_of new ≡ tree_of old → IsOfShown old (λ d. IsThere (made_of p) tokens d.value) → ReachesWhatShown old (λ o. IsOfNumbers o p) (Sets tokens p) new
-  set_same p same there = reached_same old new (λ o. IsOfNumbers o p) (Sets tokens p) same (λ d shown. stands_there tokens p d.value (there d shown))
+  pub set_same : (p : Plain) → tree_of new ≡ tree_of old → IsOfShown old (λ d. IsThere (made_of p) tokens d.value) → ReachesWhatShown old (λ o. IsOfNumbers o p) (Sets A tokens p) new
+  set_same p same there = reached_same old new (λ o. IsOfNumbers o p) (Sets A tokens p) same (λ d shown. stands_there tokens p d (there d shown))
 
-  pub set_other : (p v : Plain) → v ≡ made_of p → IsOfShown old (λ d. ¬ (IsThere (made_of p) tokens d.value)) → MakesWhatShown old (value.add tokens v) (λ o. IsOfNumbers o v) new → ReachesWhatShown old (λ o. IsOfNumbers o p) (Sets tokens p) new
+  pub set_other : (p v : Plain) → v ≡ made_of p → IsOfShown old (λ d. ¬ (IsThere (made_of p) tokens d.value)) → MakesWhatShown old (value.add tokens v) (λ o. IsOfNumbers o v) new → ReachesWhatShown old (λ o. IsOfNumbers o p) (Sets A tokens p) new
   set_other p v is other made =
-      reached_by old new (value.add tokens v) (λ o. IsOfNumbers o v) (λ o. IsOfNumbers o p) (Sets tokens p) made (λ o fit. subst (IsOfNumbers o) (sym is) (number_made o p fit))
-      (λ d shown y adds. is_put tokens p d.value y (other d shown) (subst (λ q. Adds q tokens d.value y) is adds))
+      reached_by old new (value.add tokens v) (λ o. IsOfNumbers o v) (λ o. IsOfNumbers o p) (Sets A tokens p) made (λ o fit. subst (IsOfNumbers o) (sym is) (number_made o p fit))
+      (λ d shown e adds. is_put tokens p d e (other d shown) (subst (λ q. IsMade A (value.add tokens q) d e) is adds))
 
-  pub drops_one : MakesWhatShown old (value.remove tokens) (λ o. Unit {0}) new → ReachesWhatShown old (λ o. Unit {0}) (Drops tokens) new
-  drops_one made = reached_by old new (value.remove tokens) (λ o. Unit {0}) (λ o. Unit {0}) (Drops tokens) made (λ o fit. fit) (λ d shown y r. inl r)
+  pub drops_one : MakesWhatShown old (value.remove tokens) (λ o. Unit {0}) new → ReachesWhatShown old (λ o. Unit {0}) (Drops A tokens) new
+  drops_one made = reached_by old new (value.remove tokens) (λ o. Unit {0}) (λ o. Unit {0}) (Drops A tokens) made (λ o fit. fit) (λ d shown e r. inl r)
 
-  pub drops_none : tree_of new ≡ tree_of old → FailsWhatShown old (value.remove tokens) causes.NoTarget → ReachesWhatShown old (λ o. Unit {0}) (Drops tokens) new
-  drops_none same fails = reached_same old new (λ o. Unit {0}) (Drops tokens) same (λ d shown. inr (fails d shown, refl))
+  pub drops_none : tree_of new ≡ tree_of old → FailsWhatShown old (value.remove tokens) causes.NoTarget → ReachesWhatShown old (λ o. Unit {0}) (Drops A tokens) new
+  drops_none same fails = reached_same old new (λ o. Unit {0}) (Drops A tokens) same (λ d shown. inr (fails d shown, refl))
 
-  pub named_null : (p : Plain) → p ≡ null → ReachesWhatShown old (λ o. Unit {0}) (Drops tokens) new → ReachesWhatShown old (λ o. IsOfNumbers o p) (MergesNamed tokens p) new
-  named_null p is reached = reached_as old new (λ o. Unit {0}) (λ o. IsOfNumbers o p) (Drops tokens) (MergesNamed tokens p) reached (λ o fit. tt) (λ d shown y drops. (λ e. drops, λ ne. absurd (ne is)))
+  pub named_null : (p : Plain) → p ≡ null → ReachesWhatShown old (λ o. Unit {0}) (Drops A tokens) new → ReachesWhatShown old (λ o. IsOfNumbers o p) (MergesNamed A tokens p) new
+  named_null p is reached = reached_as old new (λ o. Unit {0}) (λ o. IsOfNumbers o p) (Drops A tokens) (MergesNamed A tokens p) reached (λ o fit. tt) (λ d shown e drops. (λ nothing. drops, λ ne. absurd (ne is)))
 
-  pub named_other : (p : Plain) → p ≢ null → ReachesWhatShown old (λ o. IsOfNumbers o p) (Merges tokens p) new → ReachesWhatShown old (λ o. IsOfNumbers o p) (MergesNamed tokens p) new
-  named_other p other reached = reached_as old new (λ o. IsOfNumbers o p) (λ o. IsOfNumbers o p) (Merges tokens p) (MergesNamed tokens p) reached (λ o fit. fit) (λ d shown y m. (λ e. absurd (other e), λ ne. m))
+  pub named_other : (p : Plain) → p ≢ null → ReachesWhatShown old (λ o. IsOfNumbers o p) (MergesIn A tokens p) new → ReachesWhatShown old (λ o. IsOfNumbers o p) (MergesNamed A tokens p) new
+  named_other p other reached = reached_as old new (λ o. IsOfNumbers o p) (λ o. IsOfNumbers o p) (MergesIn A tokens p) (MergesNamed A tokens p) reached (λ o fit. fit) (λ d shown e m. (λ nothing. absurd (other nothing), λ ne. m))
 
-  pub one_member : (name : List ℕ) (p : Plain) → ReachesWhatShown old (λ o. IsOfNumbers o p) (MergesNamed (tokens ++ name ∷ []) p) new → ReachesWhatShown old (λ o. IsOfNumbers o p) (MembersMerge tokens (member name p no_members)) new
-  one_member name p reached = reached_as old new (λ o. IsOfNumbers o p) (λ o. IsOfNumbers o p) (MergesNamed (tokens ++ name ∷ []) p) (MembersMerge tokens (member name p no_members)) reached (λ o fit. fit) (λ d shown y m. named_member tokens name p d.value y m)
+  pub one_member : (name : List ℕ) (p : Plain) → ReachesWhatShown old (λ o. IsOfNumbers o p) (MergesNamed A (tokens ++ name ∷ []) p) new → ReachesWhatShown old (λ o. IsOfNumbers o p) (MembersMergeIn A tokens (member name p no_members)) new
+  one_member name p reached = reached_as old new (λ o. IsOfNumbers o p) (λ o. IsOfNumbers o p) (MergesNamed A (tokens ++ name ∷ []) p) (MembersMergeIn A tokens (member name p no_members)) reached (λ o fit. fit) (λ d shown e m. named_member tokens name p d e m)
 
   -- of the value that the patch is
-  pub merged_value : (p q : Plain) → p ≡ q → ReachesWhatShown old (λ o. IsOfNumbers o q) (Merges tokens q) new → ReachesWhatShown old (λ o. IsOfNumbers o p) (Merges tokens p) new
-  merged_value p q is reached = subst (λ k. ReachesWhatShown old (λ o. IsOfNumbers o k) (Merges tokens k) new) (sym is) reached
+  pub merged_value : (p q : Plain) → p ≡ q → ReachesWhatShown old (λ o. IsOfNumbers o q) (MergesIn A tokens q) new → ReachesWhatShown old (λ o. IsOfNumbers o p) (MergesIn A tokens p) new
+  merged_value p q is reached = subst (λ k. ReachesWhatShown old (λ o. IsOfNumbers o k) (MergesIn A tokens k) new) (sym is) reached
 
   pub failed_value : (p q : Plain) (cause : PatchCause A) → p ≡ q → FailsToMerge old tokens q cause → FailsToMerge old tokens p cause
   failed_value p q cause is fails = subst (λ k. FailsToMerge old tokens k cause) (sym is) fails

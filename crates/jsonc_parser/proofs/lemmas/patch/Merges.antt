@@ -1,18 +1,21 @@
 -- Members of a merge patch, one after another; what merging makes of nothing; and why it stops.
 use Rattle.std.proofs.Common.{ℕ, ◌≡◌, ◌≢◌, ◌∙◌, ◌++◌, ◌<◌, ◌⊎◌, inl, inr, sym, ap, subst, refl, Bool, true, false, List, [], ◌∷◌, Option, Some, None}
 use Rattle.std.specs.Bool.{Decides}
+use Rattle.jsonc_text.specs.Documents.{Document}
 use Rattle.jsonc_text.specs.Options.{Options}
 use Rattle.jsonc_text.specs.Plain.{Plain, null, boolean, number, string, array, object, collapse, Members, no_members, member}
 use Rattle.jsonc_edit.specs.Writing.{IsOfNumbers, AreNamedOfNumbers}
 use Rattle.jsonc_run.specs.texts.Entries.{members, of, Named}
 use Rattle.jsonc_run.specs.texts.Paths.{an_object}
 use Rattle.jsonc_run.proofs.lemmas.promise.Plains.{list_of_members, same_members}
+use Rattle.jsonc_parser.specs.patch.Applied.{IsMade}
 use Rattle.jsonc_parser.specs.patch.Equality.{AreEqual, HasUniqueNames}
 use Rattle.jsonc_parser.specs.patch.Failing.{HasNoPlace, ReferToNothing}
 use Rattle.jsonc_parser.specs.patch.MergeSteps.{at_root, in_object, Drops, IsPlace, MergesNamed, RefersToObject, Sets}
-use Rattle.jsonc_parser.specs.patch.Merging.{here, below, inside, put, same, made_of, members_made, GoesInto, IsThere, Merges, MembersMerge, Stops}
+use Rattle.jsonc_parser.specs.patch.Merged.{MembersMergeIn, MergesIn}
+use Rattle.jsonc_parser.specs.patch.Merging.{here, below, inside, put, same, made_of, members_made, GoesInto, IsThere, Merges, MergesBy, MembersMerge, MembersMergeBy, Stops}
 use Rattle.jsonc_parser.specs.patch.Merging as merging
-use Rattle.jsonc_parser.specs.patch.Operations.{Adds}
+use Rattle.jsonc_parser.specs.patch.Operations.{add, Makes, Operation}
 use Rattle.jsonc_parser.specs.patch.References.{FailsAt, Refers, RefersTo}
 use Rattle.jsonc_parser.proofs.lemmas.patch.Evaluation.{refers_to_one}
 use Rattle.jsonc_parser.proofs.lemmas.patch.Exclusive.{by_name, fails_whole, no_place_whole, place_there, Below}
@@ -28,11 +31,33 @@ pub and_none : (ms : Members) → and_then ms no_members ≡ ms
 and_none no_members = refl
 and_none (member name v ms) = ap (member name v) (and_none ms)
 
-pub merge_more : {tokens : List (List ℕ)} {ms : Members} {w u y : Option Plain} (ns : Members) → MembersMerge tokens ms w u → MembersMerge tokens ns u y → MembersMerge tokens (and_then ms ns) w y
+pub merge_more : {S : Type 0} {value_of : S → Option Plain} {Leads : Operation → S → S → Type 0} {tokens : List (List ℕ)} {ms : Members} {w u y : S} (ns : Members) → MembersMergeBy value_of Leads tokens ms w u → MembersMergeBy value_of Leads tokens ns u y
+    → MembersMergeBy value_of Leads tokens (and_then ms ns) w y
 merge_more ns merging.no_more k = k
 merge_more ns (merging.removed r more) k = merging.removed r (merge_more ns more k)
 merge_more ns (merging.absent a more) k = merging.absent a (merge_more ns more k)
 merge_more ns (merging.merged ne m more) k = merging.merged ne m (merge_more ns more k)
+
+-- what merging makes of any states, it makes of their values
+module _ {S : Type 0} (value_of : S → Option Plain) (Leads : Operation → S → S → Type 0) (makes : (o : Operation) (w y : S) → Leads o w y → Makes o (value_of w) (value_of y)) where
+  mutual
+    merges_value : {tokens : List (List ℕ)} {p : Plain} {w y : S} → MergesBy value_of Leads tokens p w y → Merges tokens p (value_of w) (value_of y)
+    merges_value (inside refers m) = inside refers (members_merge_value m)
+    merges_value (same none there) = same none there
+    merges_value (put none other leads) = put none other (makes _ _ _ leads)
+
+    members_merge_value : {tokens : List (List ℕ)} {ms : Members} {w y : S} → MembersMergeBy value_of Leads tokens ms w y → MembersMerge tokens ms (value_of w) (value_of y)
+    members_merge_value merging.no_more = merging.no_more
+    members_merge_value (merging.removed leads more) = merging.removed (makes _ _ _ leads) (members_merge_value more)
+    members_merge_value (merging.absent none more) = merging.absent none (members_merge_value more)
+    members_merge_value (merging.merged some m more) = merging.merged some (merges_value m) (members_merge_value more)
+
+-- of documents
+pub merges_value_of : {A : Type 0} {tokens : List (List ℕ)} {p : Plain} {d e : Document} → MergesIn A tokens p d e → Merges tokens p d.value e.value
+merges_value_of {A} m = merges_value (λ (x : Document). x.value) (IsMade A) (λ o w y made. made.made) m
+
+pub members_merge_value_of : {A : Type 0} {tokens : List (List ℕ)} {ms : Members} {d e : Document} → MembersMergeIn A tokens ms d e → MembersMerge tokens ms d.value e.value
+members_merge_value_of {A} m = members_merge_value (λ (x : Document). x.value) (IsMade A) (λ o w y made. made.made) m
 
 -- numbers of members, and of what is made of them
 pub numbers_before : (o : Options) (ms ns : Members) → AreNamedOfNumbers o (and_then ms ns) → AreNamedOfNumbers o ms
@@ -90,17 +115,17 @@ made_other (array vs) no_object = refl
 made_other (object ms) no_object = absurd (no_object ms refl)
 
 -- one member
-pub named_member : (tokens : List (List ℕ)) (name : List ℕ) (p : Plain) (w y : Option Plain) → MergesNamed (tokens ++ name ∷ []) p w y → MembersMerge tokens (member name p no_members) w y
-named_member tokens name null w y m = dropped (m.0 refl)
+pub named_member : {A : Type 0} (tokens : List (List ℕ)) (name : List ℕ) (p : Plain) (d e : Document) → MergesNamed A (tokens ++ name ∷ []) p d e → MembersMergeIn A tokens (member name p no_members) d e
+named_member {A} tokens name null d e m = dropped (m.0 refl)
   where
-    dropped : Drops (tokens ++ name ∷ []) w y → MembersMerge tokens (member name null no_members) w y
+    dropped : Drops A (tokens ++ name ∷ []) d e → MembersMergeIn A tokens (member name null no_members) d e
     dropped (inl removes) = merging.removed removes merging.no_more
-    dropped (inr stays) = subst (λ k. MembersMerge tokens (member name null no_members) w k) (sym stays.1) (merging.absent stays.0 merging.no_more)
-named_member tokens name (boolean b) w y m = merging.merged (λ e. cc) (m.1 (λ e. cc)) merging.no_more
-named_member tokens name (number s) w y m = merging.merged (λ e. cc) (m.1 (λ e. cc)) merging.no_more
-named_member tokens name (string s) w y m = merging.merged (λ e. cc) (m.1 (λ e. cc)) merging.no_more
-named_member tokens name (array vs) w y m = merging.merged (λ e. cc) (m.1 (λ e. cc)) merging.no_more
-named_member tokens name (object ns) w y m = merging.merged (λ e. cc) (m.1 (λ e. cc)) merging.no_more
+    dropped (inr stays) = subst (λ k. MembersMergeIn A tokens (member name null no_members) d k) (sym stays.1) (merging.absent stays.0 merging.no_more)
+named_member tokens name (boolean b) d e m = merging.merged (λ e. cc) (m.1 (λ e. cc)) merging.no_more
+named_member tokens name (number s) d e m = merging.merged (λ e. cc) (m.1 (λ e. cc)) merging.no_more
+named_member tokens name (string s) d e m = merging.merged (λ e. cc) (m.1 (λ e. cc)) merging.no_more
+named_member tokens name (array vs) d e m = merging.merged (λ e. cc) (m.1 (λ e. cc)) merging.no_more
+named_member tokens name (object ns) d e m = merging.merged (λ e. cc) (m.1 (λ e. cc)) merging.no_more
 
 -- the patch goes into a value only where both are objects
 pub goes_not : (p : Plain) (tokens : List (List ℕ)) (w : Option Plain) → ((ms : Members) → p ≡ object ms → ⊥) → ¬ (GoesInto p tokens w)
@@ -110,11 +135,11 @@ pub goes_nowhere : (p : Plain) (tokens : List (List ℕ)) (w : Option Plain) →
 goes_nowhere p tokens w none (ms, ns, is, refers) = none (ns, refers)
 
 -- it is there, or is put
-pub stands_there : (tokens : List (List ℕ)) (p : Plain) (w : Option Plain) → IsThere (made_of p) tokens w → Sets tokens p w w
-stands_there tokens p w there none = same none there
+pub stands_there : {A : Type 0} (tokens : List (List ℕ)) (p : Plain) (d : Document) → IsThere (made_of p) tokens d.value → Sets A tokens p d d
+stands_there tokens p d there none = same none there
 
-pub is_put : (tokens : List (List ℕ)) (p : Plain) (w y : Option Plain) → ¬ (IsThere (made_of p) tokens w) → Adds (made_of p) tokens w y → Sets tokens p w y
-is_put tokens p w y other adds none = put none other adds
+pub is_put : {A : Type 0} (tokens : List (List ℕ)) (p : Plain) (d e : Document) → ¬ (IsThere (made_of p) tokens d.value) → IsMade A (add tokens (made_of p)) d e → Sets A tokens p d e
+is_put tokens p d e other made none = put none other made
 
 -- whether a value that was read is equal to another
 module _ (v taken : Plain) (tokens : List (List ℕ)) (w : Option Plain) where

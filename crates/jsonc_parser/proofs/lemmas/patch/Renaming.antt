@@ -1,5 +1,5 @@
 -- A member that gets another name, as a move.
-use Rattle.std.proofs.Common.{ℕ, suc, ◌≡◌, ◌<◌, ◌≤◌, ◌∙◌, ◌++◌, inl, inr, sym, ap, subst, refl, true, false, List, [], ◌∷◌, length, Option, Some, None, IfNone, arith}
+use Rattle.std.proofs.Common.{ℕ, suc, ◌≡◌, ◌<◌, ◌≤◌, ◌∙◌, ◌++◌, inl, inr, sym, ap, subst, refl, true, false, List, [], ◌∷◌, length, map, Option, Some, None, IfNone, arith}
 use Rattle.std.specs.Bool.{Decides}
 use Rattle.std.proofs.lemmas.Bool.{false≢true}
 use Rattle.std.proofs.lemmas.List.{append-nil}
@@ -14,7 +14,7 @@ use Rattle.jsonc_insert.specs.elements.Members.{member_count}
 use Rattle.jsonc_layout.specs.input.Views.{chars_of}
 use Rattle.jsonc_run.specs.declared.edit.Edit.{Edit}
 use Rattle.jsonc_run.specs.declared.edit.Edit.TheVariants.{RenameProperty}
-use Rattle.jsonc_run.specs.Edits.{operation_of, unsorted}
+use Rattle.jsonc_run.specs.Edits.{operation_of, rename_property, unsorted}
 use Rattle.jsonc_run.specs.Named.{HasPropertyAt}
 use Rattle.jsonc_run.specs.texts.Edits as texts
 use Rattle.jsonc_run.specs.texts.Edits.{BecomesProperty, Operation}
@@ -26,6 +26,7 @@ use Rattle.jsonc_cst.specs.Nodes.{number_of}
 use Rattle.jsonc_parser.specs.patch.Applied.{IsEditDone, FailsWhatShown, IsCause, IsNoMemory, IsPathless, IsRefusal, IsUnfound, LeadsOn}
 use Rattle.jsonc_parser.specs.patch.Found.{IsOfShown, RefersToNode, RefersToNothing}
 use Rattle.jsonc_parser.specs.patch.MergeSteps.{IsTwice, RefersToObject}
+use Rattle.jsonc_parser.specs.patch.MadeBy as by
 use Rattle.jsonc_parser.specs.patch.Operations as value
 use Rattle.jsonc_parser.specs.patch.Operations.{renamed, IsWithinObject, Moves, RefersAlong}
 use Rattle.jsonc_parser.specs.patch.References.{here, IsItem, IsIndex, IsOnly, this_only, later_only, FailsAt, Refers, RefersTo, whole, to_member, to_element, ReferToNothing}
@@ -105,7 +106,10 @@ module _ {A : Type 0} (old new : CstRootNode A) (tree : IsTree (nodes_of old)) (
       let none = r.nothing d shown in
       let nothing : ReferToNothing d.value (r.tokens ++ last ∷ []) = subst (ReferToNothing d.value) r.beside.second (none.nothing, none.unique) in
       let moves : Moves from to d.value l.e.value = subst (λ t. Moves from t d.value l.e.value) (sym r.beside.second) (renamed r.tokens r.beside.last last r.beside.first stands nothing becomes) in
-      (l.e, l.shown, record { edits = edit ∷ []; edited = l.edited; within = l.within; options = options_so d l.e l.op op l.asks l.options; made = moves })
+      let o = r.object d shown in
+      let beside : IsWithinObject from to d.value = record { tokens = r.tokens; last = r.beside.last; name = last; members = o.0; first = r.beside.first; second = r.beside.second; object = o.1; nothing = (none.nothing, none.unique) } in
+      let own : by.IsMadeBy d.value (value.move from to) (map (operation_of unsorted) (edit ∷ [])) = subst (λ k. by.IsMadeBy d.value (value.move from to) (rename_property path.items k ∷ [])) (sym is) (by.renames beside stands) in
+      (l.e, l.shown, record { edits = edit ∷ []; own = own; edited = l.edited; within = l.within; options = options_so d l.e l.op op l.asks l.options; made = moves })
 
 module _ {A : Type 0} (doc : CstRootNode A) (tree : IsTree (nodes_of doc)) (node : CstNode) (c : PatchCause A) where
   pub renames_not : (path : Vec ℕ A) → IsAt (nodes_of doc) path.items (number_of node) → (name : String A) (last : List ℕ) → IsRefusal doc (RenameProperty path name) c → FailsToRename doc node last c
