@@ -3,6 +3,7 @@
 #![tactic(auto)]
 
 mod files;
+mod formats;
 mod mends;
 mod migrate;
 mod patches;
@@ -145,6 +146,7 @@ fn main(rt: HostRuntime) -> anyhow::Result<ExitCode> {
     read::readings(&rt)?;
     walk::walks(&rt)?;
     mends::mends(&rt)?;
+    formats::formats(&rt)?;
     patches::patches(&rt)?;
     Ok(ExitCode::SUCCESS)
 }

@@ -1,31 +1,35 @@
 //! What `lint` finds, the fault of `check` as JSON, and the faults of `check --all`.
-use crate::inputs::{CLOSED, REFUSED, read_or_tell, text_or_tell, write_out};
-use crate::mends::{mend_findings, push_mends};
-use crate::moved::lint_all;
+use crate::inputs::{CLOSED, REFUSED, name_of, read_or_tell, text_or_tell, write_out};
+use crate::mends::push_mends;
 use crate::telling::tell_cause;
-use jsonc_lint::{Finding, Findings, Rules, fault_finding, json_array};
+use jsonc_lint::{Finding, Findings, Rules, fault_finding, json_array, lint_all, mend_findings};
 use jsonc_mends::mend;
 use jsonc_parser::{ParseOptions, check_document};
 use jsonc_words::call::{Format, Input};
 use std::alloc::{AllocError, Global};
 
+/// What is looked for.
+#[derive(Clone, Copy)]
+enum Aim {
+    /// The fault that reading stops with.
+    First,
+    /// All faults, as JSON each with its change.
+    All,
+    /// All faults, and what the rules say.
+    Lint(Rules),
+}
+
 /// What is looked for, and how it is written.
 #[derive(Clone, Copy)]
 pub(crate) struct Search {
-    /// Whether more than faults is looked for.
-    is_lint: bool,
-    /// Whether all faults are looked for, and not the first alone.
-    finds_all: bool,
-    trailing_commas: bool,
+    aim: Aim,
     is_json: bool,
 }
 
 /// The search of `check` that writes JSON.
 pub(crate) fn of_check() -> Search {
     Search {
-        is_lint: false,
-        finds_all: false,
-        trailing_commas: false,
+        aim: Aim::First,
         is_json: true,
     }
 }
@@ -33,25 +37,21 @@ pub(crate) fn of_check() -> Search {
 /// The search of `check --all`.
 pub(crate) fn of_all(format: Format) -> Search {
     Search {
-        is_lint: false,
-        finds_all: true,
-        trailing_commas: false,
+        aim: Aim::All,
         is_json: matches!(format, Format::Json),
     }
 }
 
 /// The search of `lint`.
-pub(crate) fn of_lint(format: Format, no_trailing_commas: bool) -> Search {
+pub(crate) fn of_lint(format: Format, trailing_commas: bool) -> Search {
     Search {
-        is_lint: true,
-        finds_all: false,
-        trailing_commas: no_trailing_commas,
+        aim: Aim::Lint(Rules { trailing_commas }),
         is_json: matches!(format, Format::Json),
     }
 }
 
-/// The fault of a text, as what is found.
-fn faults(
+/// The fault that reading a text stops with, as what is found.
+fn first_fault(
     rt: &HostRuntime,
     options: &ParseOptions,
     text: &str,
@@ -67,14 +67,13 @@ fn faults(
 fn found_in(
     rt: &HostRuntime,
     options: &ParseOptions,
-    search: Search,
+    aim: Aim,
     text: &str,
 ) -> Result<Findings<Global>, AllocError> {
-    if search.is_lint {
-        let trailing_commas = search.trailing_commas;
-        lint_all(rt, text, options, Rules { trailing_commas })
-    } else {
-        faults(rt, options, text)
+    match aim {
+        Aim::First => first_fault(rt, options, text),
+        Aim::All => mend_findings(rt.alloc(), mend(rt.alloc(), text, options)?.list()),
+        Aim::Lint(rules) => lint_all(rt.alloc(), text, options, rules),
     }
 }
 
@@ -105,45 +104,22 @@ fn lines_of(
     Ok(lines)
 }
 
-/// Adds the findings as objects of JSON.
+/// Adds what is found in a text as objects of JSON.
 fn push_objects(
     rt: &HostRuntime,
-    input: Input<'_>,
-    found: &[Finding<Global>],
-    objects: &mut Vec<String>,
-) -> Result<(), AllocError> {
-    let name = match input {
-        Input::File(name) => name,
-        Input::Standard => "-",
-    };
-    for finding in found {
-        let object = finding.to_json(rt.alloc(), name)?;
-        objects.push(object)?;
-    }
-    Ok(())
-}
-
-/// Finds all faults of one text, writes them or adds them to the objects, and answers the status.
-fn find_faults(
-    rt: &HostRuntime,
     options: &ParseOptions,
-    search: Search,
+    aim: Aim,
     input: Input<'_>,
     text: &str,
     objects: &mut Vec<String>,
-) -> Result<u8, AllocError> {
-    let mends = mend(rt.alloc(), text, options)?;
-    if mends.list().is_empty() {
-        return Ok(0);
+) -> Result<(), AllocError> {
+    if let Aim::All = aim {
+        return push_mends(rt, input, &mend(rt.alloc(), text, options)?, objects);
     }
-    if search.is_json {
-        push_mends(rt, input, &mends, objects)?;
-        return Ok(REFUSED);
+    for finding in found_in(rt, options, aim, text)?.iter() {
+        objects.push(finding.to_json(rt.alloc(), name_of(input))?)?;
     }
-    let found = mend_findings(rt, mends.list())?;
-    let lines = lines_of(rt, input, &found)?;
-    let status = write_out(rt, &[], lines.as_str().as_bytes());
-    Ok(status.max(REFUSED))
+    Ok(())
 }
 
 /// Finds what is in one text, writes it or adds it to the objects, and answers the status.
@@ -155,16 +131,18 @@ fn find_in(
     text: &str,
     objects: &mut Vec<String>,
 ) -> Result<u8, AllocError> {
-    if search.finds_all {
-        return find_faults(rt, options, search, input, text, objects);
-    }
-    let found = found_in(rt, options, search, text)?;
-    if found.is_empty() {
+    // `mend` copies a text without a fault, and the check does not.
+    if matches!(search.aim, Aim::All) && check_document(rt.alloc(), text, options).is_ok() {
         return Ok(0);
     }
     if search.is_json {
-        push_objects(rt, input, &found, objects)?;
-        return Ok(REFUSED);
+        let before = objects.len();
+        push_objects(rt, options, search.aim, input, text, objects)?;
+        return Ok(if objects.len() > before { REFUSED } else { 0 });
+    }
+    let found = found_in(rt, options, search.aim, text)?;
+    if found.is_empty() {
+        return Ok(0);
     }
     let lines = lines_of(rt, input, &found)?;
     let status = write_out(rt, &[], lines.as_str().as_bytes());

@@ -10,6 +10,14 @@ pub(crate) const REFUSED: u8 = 1;
 /// The status where standard output was closed, as of a process that SIGPIPE ended.
 pub(crate) const CLOSED: u8 = 141;
 
+/// The name of an input, as JSON has it.
+pub(crate) fn name_of<'a>(input: Input<'a>) -> &'a str {
+    match input {
+        Input::File(name) => name,
+        Input::Standard => "-",
+    }
+}
+
 /// All bytes of an input.
 pub(crate) fn read_input(rt: &HostRuntime, input: Input<'_>) -> io::Result<Vec<u8>> {
     match input {

@@ -6,7 +6,6 @@ mod in_place;
 mod inputs;
 mod layouts;
 mod mends;
-mod moved;
 mod runs;
 mod telling;
 mod work;

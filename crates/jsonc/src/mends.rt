@@ -1,43 +1,19 @@
 //! Runs of `mend`, and all faults of a text, each with the change that mends it.
 use crate::findings::finding_line;
 use crate::in_place::end_in_place;
-use crate::inputs::{REFUSED, read_or_tell, write_out};
+use crate::inputs::{REFUSED, name_of, read_or_tell, write_out};
 use crate::telling::{tell_cause, tell_finding};
 use crate::work::{End, Work, ended, refuse};
 use jsonc_files::replace;
 use jsonc_host::HostFolder;
 use jsonc_layout::input::spelling::spell;
-use jsonc_lint::{Finding, FindingKind, Findings};
+use jsonc_lint::{mend_finding, mend_findings};
 use jsonc_mends::{Mend, Mends};
 use jsonc_parser::common::Range;
 use jsonc_program::mark::split_mark;
 use jsonc_program::mending::{Mending, mends_of};
 use jsonc_words::call::Input;
 use std::alloc::{AllocError, Global};
-
-/// The fault of a mend, as what is found.
-fn mend_finding(mend: &Mend) -> Finding<Global> {
-    Finding {
-        kind: FindingKind::Fault(mend.fault.kind),
-        range: mend.fault.range,
-        line: mend.at.line,
-        column: mend.at.column,
-    }
-}
-
-/// The faults of mends, in the order of their changes. A fault that two changes mend, one behind the other, is told once.
-pub(crate) fn mend_findings(
-    rt: &HostRuntime,
-    mends: &[Mend],
-) -> Result<Findings<Global>, AllocError> {
-    let mut found = Vec::new(rt.alloc());
-    for number in 0..mends.len() {
-        if number == 0 || mends[number - 1].fault != mends[number].fault {
-            found.push(mend_finding(&mends[number]))?;
-        }
-    }
-    Ok(found)
-}
 
 /// The text of an object of JSON without its last bracket.
 fn without_bracket(object: &str) -> &str {
@@ -56,7 +32,7 @@ fn object_of(
     range: Range,
     new_text: &str,
 ) -> Result<String, AllocError> {
-    let object = mend_finding(mend).to_json(rt.alloc(), name)?;
+    let object = mend_finding::<Global>(mend).to_json(rt.alloc(), name)?;
     let text = spell(rt.alloc(), new_text)?;
     let (start, end) = (range.start, range.end);
     let mut whole = String::from_str(rt.alloc(), without_bracket(object.as_str()))?;
@@ -110,10 +86,7 @@ pub(crate) fn push_mends(
     mends: &Mends<Global>,
     objects: &mut Vec<String>,
 ) -> Result<(), AllocError> {
-    let name = match input {
-        Input::File(name) => name,
-        Input::Standard => "-",
-    };
+    let name = name_of(input);
     let list = mends.list();
     for number in 0..list.len() {
         if number == 0 || list[number - 1].fault != list[number].fault {
@@ -125,7 +98,7 @@ pub(crate) fn push_mends(
 
 /// Tells each fault on standard error.
 fn tell_mends(rt: &HostRuntime, input: Input<'_>, mends: &[Mend]) {
-    match mend_findings(rt, mends) {
+    match mend_findings(rt.alloc(), mends) {
         Ok(found) => {
             for finding in found.iter() {
                 tell_finding(rt, finding_line(rt, input, finding));

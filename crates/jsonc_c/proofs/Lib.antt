@@ -1,3 +1,4 @@
+mod Formatting
 mod Fronts
 mod Inputs
 mod Patching

@@ -1,10 +1,11 @@
 -- Edits of C, read one after another.
-use Rattle.std.proofs.Common.{◌≡◌, ◌<◌, ◌+◌, ◌++◌, ◌∷◌, ℕ, zero, suc, List, [], Some, arith, get_or, inr, length, refl, subst, sym, take}
+use Rattle.std.proofs.Common.{◌≡◌, ◌<◌, ◌+◌, ◌++◌, ◌∷◌, ℕ, zero, suc, List, [], Some, arith, get_or, length, refl, subst, sym, take}
 use Rattle.std.specs.List.{slice_get}
 use Rattle.std.proofs.lemmas.List.{take_more}
 use Rattle.jsonc_text.specs.declared.errors.ParseError.{ParseError}
 use Rattle.jsonc_run.specs.declared.edit.Edit.{Edit}
 use Rattle.jsonc_c.specs.Edits.{AreReadAs, IsReadAs, IsUnread, IsUnreadIn, none_read, one_read}
+use Rattle.jsonc_c.specs.Edits.IsUnread.{for_memory}
 use Rattle.jsonc_c.specs.Told.{IsToldOf}
 use Rattle.jsonc_c.specs.declared.edits.JsoncEdit.{JsoncEdit}
 use Rattle.jsonc_c.specs.declared.fault.JsoncFault.{JsoncFault}
@@ -46,4 +47,9 @@ got (x ∷ xs) (suc k) d h = got xs k d (omega (arith, h))
 
 -- an edit of a list is none, and the fault has its number
 pub unread_there : (cs : List JsoncEdit) (k : ℕ) (d : JsoncEdit) (status : ℕ) (f : JsoncFault) → k < length cs → IsUnread (get_or cs k d) status f → IsUnreadIn cs status (counted f k)
-unread_there cs k d status f within why = inr (get_or cs k d, got cs k d within, unread_counted k why)
+unread_there cs k d status f within why = (get_or cs k d, got cs k d within, unread_counted k why)
+
+-- and where an allocation failed for the edit
+pub memory_there : (cs : List JsoncEdit) (k : ℕ) (f : JsoncFault) → k < length cs → IsUnreadIn cs 1 (counted f k)
+memory_there [] k f within = absurd (omega (arith, within))
+memory_there (c ∷ cs) k f within = unread_there (c ∷ cs) k c 1 f within for_memory

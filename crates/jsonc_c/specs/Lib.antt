@@ -1,6 +1,7 @@
 pub mod Commands
 pub mod Compared
 pub mod Edits
+pub mod Formats
 pub mod Mends
 pub mod Options
 pub mod PatchTold

@@ -7,6 +7,7 @@ ghost use Rattle.jsonc_engine.specs.Input.{IsInputOf};
 ghost use Rattle.jsonc_engine.specs.Output.{IsLeft};
 ghost use Rattle.jsonc_c.specs.Commands.{HasNoText, IsRefused, asked_of};
 ghost use Rattle.jsonc_c.specs.Edits.{IsEdited, IsUnedited};
+ghost use Rattle.jsonc_c.specs.Formats.{IsFormattedBy, IsUnformatted};
 ghost use Rattle.jsonc_c.specs.Options.{options_of};
 ghost use Rattle.jsonc_c.specs.PatchTold.{TellsOfPatches};
 ghost use Rattle.jsonc_c.specs.Patches.{IsFound, IsMergedBy, IsPatchedBy, IsUnfound, IsUnmerged, IsUnpatched};
@@ -15,6 +16,7 @@ ghost use Rattle.jsonc_c.specs.Told.{TellsOfEdits, TellsOfTexts};
 use crate::asked::{Asked, written};
 use crate::edits::JsoncEdit;
 use crate::fault::{JsoncFault, NO_ROOM, OK};
+use crate::format::{JsoncStyle, formatted};
 use crate::handed::without_line_feed;
 use crate::lists::text_after;
 use crate::patches::{found, merged, patched};
@@ -411,6 +413,36 @@ pub extern "C" fn jsonc_merge_patch_into(
 {
     *len = 0;
     match merged(alloc, text, patch, options, fault) {
+        Ok(made) => fill(made.as_bytes(), room, len),
+        Err(status) => status,
+    }
+}
+
+/// Writes the formatted text into a buffer, as `jsonc_format` hands it out.
+///
+/// 17: the buffer is too small. `len` tells how long the text is then, too.
+#[tactic(auto, using(crate::proofs::Telling::tells_none))]
+#[unsafe(no_mangle)]
+pub extern "C" fn jsonc_format_into(
+    alloc: Global,
+    text: &[u8],
+    options: u32,
+    style: &JsoncStyle,
+    room: &mut [u8],
+    len: &mut usize,
+    fault: &mut JsoncFault,
+) -> u32
+    ensures formatted { result ≡ 0 →
+        IsFormattedBy (options_of options) style.now text.now (take len.new room.new) }
+    ensures no_room { result ≡ 17 → length room.old < len.new }
+    ensures len { ¬ (result ≡ 0) → ¬ (result ≡ 17) → len.new ≡ 0 }
+    ensures unwritten { ¬ (result ≡ 0) → room.new ≡ room.old }
+    ensures told { TellsOfTexts result fault.new }
+    ensures refused { ¬ (result ≡ 0) → ¬ (result ≡ 17) →
+        IsUnformatted (options_of options) text.now result fault.new }
+{
+    *len = 0;
+    match formatted(alloc, text, options, style, fault) {
         Ok(made) => fill(made.as_bytes(), room, len),
         Err(status) => status,
     }

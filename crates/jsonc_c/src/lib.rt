@@ -14,6 +14,7 @@ mod commands;
 mod compare;
 mod edits;
 mod fault;
+mod format;
 mod handed;
 mod into;
 mod lists;
@@ -30,10 +31,11 @@ pub use commands::{
 };
 pub use edits::JsoncEdit;
 pub use fault::JsoncFault;
+pub use format::{JsoncStyle, jsonc_format};
 pub use into::{
     jsonc_append_into, jsonc_apply_patch_into, jsonc_drop_into, jsonc_edit_into, jsonc_find_into,
-    jsonc_get_into, jsonc_merge_patch_into, jsonc_print_into, jsonc_put_into, jsonc_remove_into,
-    jsonc_set_into, jsonc_sort_into,
+    jsonc_format_into, jsonc_get_into, jsonc_merge_patch_into, jsonc_print_into, jsonc_put_into,
+    jsonc_remove_into, jsonc_set_into, jsonc_sort_into,
 };
 pub use lists::jsonc_edit;
 pub use mends::{JsoncMend, jsonc_mend};

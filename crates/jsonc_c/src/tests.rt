@@ -15,6 +15,7 @@ use crate::lists::jsonc_edit;
 use std::alloc::{AllocError, Global};
 use std::test::Fail;
 
+mod formats;
 mod mends;
 mod patches;
 

@@ -1,4 +1,6 @@
 pub mod Boundaries
 pub mod Repeats
 pub mod KindRules
+pub mod Moves
+pub mod TextPlaces
 pub mod Walk

@@ -3,3 +3,4 @@
 mod findings;
 mod lines;
 mod memory;
+mod whole;

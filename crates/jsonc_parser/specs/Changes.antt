@@ -2,6 +2,8 @@
 use Rattle.std.specs.Prelude.{◌≡◌, ◌⊎◌, ℕ, ◌≤◌, ◌+◌, ◌-◌, List, ◌∷◌, ◌++◌, []}
 use Rattle.jsonc_text.specs.Text.{byte_length}
 use Rattle.jsonc_text.specs.declared.line.LineAndColumn.{LineAndColumn}
+use Rattle.jsonc_mends.specs.declared.mends.TextChange.{TextChange}
+use Rattle.jsonc_parser.specs.declared.change.Utf16Change.{Utf16Change}
 use Rattle.jsonc_parser.specs.Places.{LineColumnUtf16}
 
 -- between front and back the one text has `was`, and the other `now`
@@ -68,3 +70,13 @@ pub record IsUtf16Change (old new : List ℕ) (from to : LineAndColumn) (now : L
   pub least : IsLeastOutside old new start end now
   pub begins : LineColumnUtf16 old start from.line from.column
   pub ends : LineColumnUtf16 old end to.line to.column
+
+-- the same change of a text, by lines and columns, the columns in UTF-16 code units
+pub record IsByLines (t : List ℕ) (c : TextChange) (u : Utf16Change) : Type 0 where
+  pub begins : LineColumnUtf16 t c.range.start u.start.line u.start.column
+  pub ends : LineColumnUtf16 t c.range.end u.end.line u.end.column
+  pub text : u.new_text.now ≡ c.new_text.now
+
+-- a line from the one to the other has a part of the change, or its start or end
+abbrev pub IsOnLines : Utf16Change → (first last : ℕ) → Type 0
+IsOnLines u first last = (u.start.line ≤ last) × (first ≤ u.end.line)

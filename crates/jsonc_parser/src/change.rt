@@ -3,7 +3,7 @@
 ghost use Rattle.std.specs.Bool.{Decides};
 ghost use Rattle.std.specs.Prelude.{chars, IsCharBoundary, IsUtf8};
 ghost use Rattle.jsonc_text.specs.Text.{Spans};
-ghost use Rattle.jsonc_parser.specs.Changes.{BeginsApart, EndsApart, EndsOutside, IsInsideCrLf, IsLeastChange};
+ghost use Rattle.jsonc_parser.specs.Changes.{BeginsApart, EndsApart, EndsOutside, IsInsideCrLf, IsLeastChange, IsOnLines};
 ghost use Rattle.jsonc_parser.specs.Changes.{IsLeastOutside, IsUtf16Change, StartsOutside};
 
 use crate::places::{ColumnUnit, walk_to};
@@ -88,6 +88,18 @@ pub struct Utf16Change<'n> {
     pub end: LineAndColumn,
     /// The text in its place.
     pub new_text: &'n str,
+}
+
+impl<'n> Utf16Change<'n> {
+    /// Whether it touches a line from the first to the last of these, both counted from 1.
+    ///
+    /// It does where the stretch begins no later than the last line and ends no earlier than the first one. The change of a gap
+    /// from the end of line 2 to the indent of line 3 is on both.
+    pub fn is_on_lines(&self, first: usize, last: usize) -> bool
+        ensures { Decides result (IsOnLines self.now first last) }
+    {
+        self.start.line <= last && first <= self.end.line
+    }
 }
 
 // Whether a place of a text is between the CR and the LF of a CR LF.

@@ -5,11 +5,16 @@ ghost use Rattle.std.specs.Prelude.{IfNone, IfOk, IfSome, IsCharBoundary};
 ghost use Rattle.std.specs.List.Sorted.{IsNonDecreasing};
 ghost use Rattle.jsonc_text.specs.Places.{LineColumn};
 ghost use Rattle.jsonc_text.specs.Text.{Spans};
+ghost use Rattle.jsonc_parser.specs.Changes.{IsByLines};
 ghost use Rattle.jsonc_parser.specs.LineStarts.{AreLineStarts, IsMark};
 ghost use Rattle.jsonc_parser.specs.Places.{LineColumnBy, LineColumnUtf16, units};
 
+use crate::change::Utf16Change;
 use crate::places::{ColumnUnit, LineAndColumn, place_from, walk_to};
+use jsonc_mends::TextChange;
+use jsonc_text::chars::char_at;
 use jsonc_text::line::ends_line;
+use jsonc_text::string::stops::stop_place;
 use std::alloc::{AllocError, Allocator};
 use std::marker::Model;
 
@@ -103,17 +108,18 @@ fn count_to(places: &[usize], place: usize) -> usize
     places.partition_point(|other| *other <= place)
 }
 
-// The places where the lines of a text begin.
+// The places where the lines of a text begin. What stands between two line ends is passed by bytes.
 fn line_starts<A: Allocator>(alloc: A, text: &str) -> Result<Vec<usize, A>, AllocError>
     ensures { IfOk result (λ starts. AreLineStarts (chars text.now) starts.items) }
 {
     let mut starts = Vec::new(alloc);
     starts.push(0)?;
-    let mut rest = text.chars();
-    while let Some(c) = rest.next() {
-        let left = rest.as_str();
-        if ends_line(c, left) {
-            starts.push(text.len() - left.len())?;
+    let mut at = stop_place(text, 0, b'\n', b'\r');
+    while let Some(c) = char_at(text, at) {
+        let next = at + c.len_utf8();
+        at = stop_place(text, next, b'\n', b'\r');
+        if ends_line(c, &text[next..]) {
+            starts.push(next)?;
         }
     }
     Ok(starts)
@@ -294,5 +300,23 @@ impl<'t, A: Allocator> LineIndex<'t, A> {
         ensures none { IfNone result ((p : ℕ) → LineColumnUtf16 (chars self.now) p line column → ⊥) }
     {
         self.place_by(line, column, ColumnUnit::Utf16)
+    }
+
+    /// A change of the text by lines and UTF-16 columns, as a language server sends it.
+    ///
+    /// None where its range begins or ends within a character or past the end. In `{"a":1}` the change of the empty range from
+    /// 1 to 1 begins and ends in line 1, column 2.
+    pub fn utf16_change<'n>(&self, change: TextChange<'n>) -> Option<Utf16Change<'n>>
+        ensures found { IfSome result (IsByLines (chars self.now) change.entry) }
+        ensures none { IfNone result
+            (IsCharBoundary self.now change.entry.range.start → IsCharBoundary self.now change.entry.range.end → ⊥) }
+    {
+        let start = self.line_and_column_utf16(change.range.start)?;
+        let end = self.line_and_column_utf16(change.range.end)?;
+        Some(Utf16Change {
+            start,
+            end,
+            new_text: change.new_text,
+        })
     }
 }

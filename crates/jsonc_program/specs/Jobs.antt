@@ -77,8 +77,9 @@ IsLintOf other format no_commas = ⊥
 
 -- how a document is to be laid out, and whether it is only to be checked, or shown what changes
 abbrev pub IsFormatOf : Command → Layout → (only shows : Bool) → Type 0
-IsFormatOf (called.Format indent line_end expand commas checks diff) layout only shows =
-    IsLayoutOf indent line_end expand commas layout × (only ≡ checks) × (shows ≡ diff)
+IsFormatOf (called.Format options) layout only shows =
+    IsLayoutOf options.indent options.line_end options.expand options.trailing_commas layout
+    × (only ≡ options.only_checks) × (shows ≡ options.shows_diff)
 IsFormatOf other layout only shows = ⊥
 
 -- the job is what the command asks for

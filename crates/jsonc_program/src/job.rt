@@ -12,7 +12,7 @@ use crate::layout::{Layout, layout_of};
 use crate::place::place_of;
 use jsonc_engine::command::{Command, Place};
 use jsonc_words::call;
-use jsonc_words::call::{Format, Indent, LineEnd, TrailingCommas};
+use jsonc_words::call::{Format, FormatOptions};
 
 /// How many bytes a document may have that is patched, where the words name no other number.
 const MOST_BYTES: usize = 1_000_000_000;
@@ -188,16 +188,17 @@ fn check_job<'a>(format: Format, finds_all: bool) -> Job<'a>
     }
 }
 
-fn format_job<'a>(
-    indent: Option<Indent>,
-    line_end: Option<LineEnd>,
-    expand: bool,
-    trailing_commas: Option<TrailingCommas>,
-    only_checks: bool,
-    shows_diff: bool,
-) -> Job<'a>
-    ensures { (must : Bool) (text : List ℕ) → IsJobOf (called.Format indent line_end expand trailing_commas only_checks shows_diff) must text result }
+fn format_job<'a>(options: FormatOptions) -> Job<'a>
+    ensures { (must : Bool) (text : List ℕ) → IsJobOf (called.Format options) must text result }
 {
+    let FormatOptions {
+        indent,
+        line_end,
+        expand,
+        trailing_commas,
+        only_checks,
+        shows_diff,
+    } = options;
     let layout = layout_of(indent, line_end, expand, trailing_commas);
     Job::Format {
         layout,
@@ -261,21 +262,7 @@ pub fn job_of<'a>(
             format,
             no_trailing_commas,
         }),
-        call::Command::Format {
-            indent,
-            line_end,
-            expand,
-            trailing_commas,
-            only_checks,
-            shows_diff,
-        } => Ok(format_job(
-            indent,
-            line_end,
-            expand,
-            trailing_commas,
-            only_checks,
-            shows_diff,
-        )),
+        call::Command::Format(options) => Ok(format_job(options)),
         call::Command::Mend => Ok(Job::Mend),
     }
 }

@@ -3,6 +3,7 @@ use Rattle.std.specs.Prelude.{Bool, true, false, not, ◌&&◌, Option, Some, No
 use Rattle.jsonc_words.specs.declared.call.Text.{Text}
 use Rattle.jsonc_words.specs.declared.call.Command.{Command}
 use Rattle.jsonc_words.specs.declared.call.Command.TheVariants as command
+use Rattle.jsonc_words.specs.declared.call.TrailingCommas.{TrailingCommas}
 use Rattle.jsonc_words.specs.declared.call.TrailingCommas.TheVariants as commas
 use Rattle.jsonc_words.specs.declared.name.CommandName.{CommandName}
 use Rattle.jsonc_words.specs.declared.name.CommandName.TheVariants as name
@@ -25,17 +26,22 @@ name_of (command.Patch patch most) = name.Patch
 name_of (command.Merge patch) = name.Merge
 name_of command.Json = name.Json
 name_of (command.Lint format commas) = name.Lint
-name_of (command.Format indent line_end expand commas check diff) = name.Format
+name_of (command.Format options) = name.Format
 name_of command.Mend = name.Mend
 
 -- whether the command writes the document, which is what `--in-place` is for
 abbrev pub writes_document : Command → Bool
-writes_document (command.Format indent line_end expand commas check diff) = not check && not diff
+writes_document (command.Format options) = not options.only_checks && not options.shows_diff
 writes_document other = works_in_place (name_of other)
+
+-- whether the word of `--trailing-commas` sets them
+abbrev pub is_multiline : Option TrailingCommas → Bool
+is_multiline (Some commas.Multiline) = true
+is_multiline other = false
 
 -- whether the command sets trailing commas
 abbrev pub sets_commas : Command → Bool
-sets_commas (command.Format indent line_end expand (Some commas.Multiline) check diff) = true
+sets_commas (command.Format options) = is_multiline options.trailing_commas
 sets_commas other = false
 
 -- the text of the argument that `-f` may give, where the command has one

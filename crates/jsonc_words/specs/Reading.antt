@@ -12,6 +12,7 @@ use Rattle.jsonc_words.specs.declared.call.Dialect.{Dialect}
 use Rattle.jsonc_words.specs.declared.call.Dialect.TheVariants as dialect
 use Rattle.jsonc_words.specs.declared.call.Format.{Format}
 use Rattle.jsonc_words.specs.declared.call.Format.TheVariants as format
+use Rattle.jsonc_words.specs.declared.call.FormatOptions.{FormatOptions}
 use Rattle.jsonc_words.specs.declared.call.Indent.{Indent}
 use Rattle.jsonc_words.specs.declared.call.Indent.TheVariants as indent
 use Rattle.jsonc_words.specs.declared.call.LineEnd.{LineEnd}
@@ -103,6 +104,14 @@ pub record IsBound (found : Found) (most : Option ℕ) : Type 0 where
   pub number : (word : List ℕ) → one_text found (codes "max-bytes") ≡ Some word
       → IfSome most (λ n. n ≡ digits_value 10 (without_leading_plus word))
 
+pub record AreFormatOptions (found : Found) (options : FormatOptions) : Type 0 where
+  pub indent : IsIndent found options.indent
+  pub line_end : IsLineEnd found options.line_end
+  pub expand : IsFlag found (codes "expand") options.expand
+  pub trailing_commas : IsTrailingCommas found options.trailing_commas
+  pub check : IsFlag found (codes "check") options.only_checks
+  pub diff : IsFlag found (codes "diff") options.shows_diff
+
 -- the arguments and options of a command are those that `clap` found
 abbrev pub IsCommand : Found → Command → Type 0
 IsCommand found (command.Check format all) = IsFormat found format × IsFlag found (codes "all") all
@@ -131,9 +140,7 @@ IsCommand found (command.Merge patch) = IsText found (codes "patch") patch
 IsCommand found command.Json = Unit {0}
 IsCommand found (command.Lint format commas) =
     IsFormat found format × IsFlag found (codes "no-trailing-commas") commas
-IsCommand found (command.Format indent line_end expand commas check diff) = IsIndent found indent
-    × IsLineEnd found line_end × IsFlag found (codes "expand") expand × IsTrailingCommas found commas
-    × IsFlag found (codes "check") check × IsFlag found (codes "diff") diff
+IsCommand found (command.Format options) = AreFormatOptions found options
 IsCommand found command.Mend = Unit {0}
 
 -- the command of this name, as `clap` found it

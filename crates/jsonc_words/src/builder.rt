@@ -165,6 +165,16 @@ fn with_own_options<'a>(
     }
 }
 
+/// Whether the command takes NAME or PLACE.
+fn takes_place(name: CommandName) -> bool {
+    match name {
+        CommandName::Set | CommandName::Remove | CommandName::Sort => true,
+        CommandName::Drop | CommandName::Get | CommandName::Put => true,
+        CommandName::Rename | CommandName::Comment => true,
+        _ => false,
+    }
+}
+
 /// The command with all that it takes.
 pub(crate) fn command_of<'a>(alloc: Global, name: CommandName) -> Result<Command<'a>, AllocError> {
     let word: &'a str = name.as_str();
@@ -174,7 +184,7 @@ pub(crate) fn command_of<'a>(alloc: Global, name: CommandName) -> Result<Command
         .after_help(example(name));
     let command = with_arguments(alloc, command, name)?;
     let command = with_own_options(alloc, command, name)?;
-    with_common_options(alloc, command, name.works_in_place())
+    with_common_options(alloc, command, takes_place(name), name.works_in_place())
 }
 
 /// The program with all of its commands, for its help and for a word that names none of them.

@@ -101,6 +101,19 @@ pub enum TrailingCommas {
     Multiline,
 }
 
+/// The options of `format`.
+#[derive(Clone, Copy, Debug)]
+pub struct FormatOptions {
+    pub indent: Option<Indent>,
+    pub line_end: Option<LineEnd>,
+    pub expand: bool,
+    pub trailing_commas: Option<TrailingCommas>,
+    /// Whether it is told which files would change, and no document is written.
+    pub only_checks: bool,
+    /// Whether what would change is written as a diff, and no document.
+    pub shows_diff: bool,
+}
+
 /// A command with its arguments and its own options. A place is a word as it is given: a JSON Pointer, or an array of
 /// names.
 #[derive(Clone, Copy, Debug)]
@@ -160,16 +173,7 @@ pub enum Command<'a> {
         format: Format,
         no_trailing_commas: bool,
     },
-    Format {
-        indent: Option<Indent>,
-        line_end: Option<LineEnd>,
-        expand: bool,
-        trailing_commas: Option<TrailingCommas>,
-        /// Whether it is told which files would change, and no document is written.
-        only_checks: bool,
-        /// Whether what would change is written as a diff, and no document.
-        shows_diff: bool,
-    },
+    Format(FormatOptions),
     Mend,
 }
 
@@ -194,7 +198,7 @@ impl<'a> Command<'a> {
             Command::Merge { .. } => CommandName::Merge,
             Command::Json => CommandName::Json,
             Command::Lint { .. } => CommandName::Lint,
-            Command::Format { .. } => CommandName::Format,
+            Command::Format(_) => CommandName::Format,
             Command::Mend => CommandName::Mend,
         }
     }
@@ -204,11 +208,7 @@ impl<'a> Command<'a> {
         ensures { result ≡ writes_document self.entry }
     {
         match self {
-            Command::Format {
-                only_checks,
-                shows_diff,
-                ..
-            } => !only_checks && !shows_diff,
+            Command::Format(options) => !options.only_checks && !options.shows_diff,
             _ => self.name().works_in_place(),
         }
     }
@@ -217,13 +217,12 @@ impl<'a> Command<'a> {
     pub fn sets_commas(self) -> bool
         ensures { result ≡ sets_commas self.entry }
     {
-        matches!(
-            self,
-            Command::Format {
-                trailing_commas: Some(TrailingCommas::Multiline),
-                ..
+        match self {
+            Command::Format(options) => {
+                matches!(options.trailing_commas, Some(TrailingCommas::Multiline))
             }
-        )
+            _ => false,
+        }
     }
 
     /// The text that the command takes, which `-f` may give.

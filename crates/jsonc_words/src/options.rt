@@ -129,11 +129,12 @@ pub(crate) fn format<'a>(alloc: Global) -> Arg<'a> {
         .help("How findings are written")
 }
 
-/// The command with the options of all, and the files. Where the command changes no file, its help does not show
-/// `--in-place`.
+/// The command with the options of all, and the files. `--must-exist` is one where the command takes NAME or PLACE. Where
+/// the command changes no file, its help does not show `--in-place`.
 pub(crate) fn with_common_options<'a>(
     alloc: Global,
     command: Command<'a>,
+    takes_place: bool,
     works_in_place: bool,
 ) -> Result<Command<'a>, AllocError> {
     let dialect = Arg::new(alloc, "dialect")
@@ -142,6 +143,7 @@ pub(crate) fn with_common_options<'a>(
         .value_parser(DIALECTS.as_slice())
         .default_value("all")
         .help("Which texts are taken");
+    let must_exist = "Ends with status 3 where nothing is at NAME or PLACE";
     let in_place = flag(alloc, "in-place", "Changes each FILE itself")
         .short('i')
         .hide(!works_in_place);
@@ -150,13 +152,11 @@ pub(crate) fn with_common_options<'a>(
         .num_args(0..)
         .action(ArgAction::Append)
         .help("Files to read; without one, and for -, standard input");
-    command
-        .arg(dialect)?
-        .arg(flag(
-            alloc,
-            "must-exist",
-            "Ends with status 3 where nothing is at NAME or PLACE",
-        ))?
-        .arg(in_place)?
-        .arg(files)
+    let command = command.arg(dialect)?;
+    let command = if takes_place {
+        command.arg(flag(alloc, "must-exist", must_exist))?
+    } else {
+        command
+    };
+    command.arg(in_place)?.arg(files)
 }

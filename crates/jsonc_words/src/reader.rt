@@ -6,7 +6,8 @@ ghost use Rattle.jsonc_words.specs.Reading.{IsBound, IsCommandOf, IsDialect, IsF
 ghost use Rattle.jsonc_words.specs.Reading.{file_words, moved_word, option_list, text_id};
 
 use crate::call::{
-    Call, Command, Dialect, Format, Indent, Input, LineEnd, Text, TrailingCommas, Value,
+    Call, Command, Dialect, Format, FormatOptions, Indent, Input, LineEnd, Text, TrailingCommas,
+    Value,
 };
 use crate::name::CommandName;
 use clap::ArgMatches;
@@ -271,14 +272,14 @@ fn style_from<'a>(matches: &ArgMatches<'a>) -> Command<'a>
     let trailing_commas = trailing_commas_from(matches);
     let only_checks = flag_from(matches, "check");
     let shows_diff = flag_from(matches, "diff");
-    Command::Format {
+    Command::Format(FormatOptions {
         indent,
         line_end,
         expand,
         trailing_commas,
         only_checks,
         shows_diff,
-    }
+    })
 }
 
 /// The command with its arguments and options, where each argument that it needs was found.

@@ -1,7 +1,7 @@
 //! What is found in some texts.
 
 use failing_alloc::outcome::Outcome;
-use jsonc_lint::{Rules, lint};
+use jsonc_lint::{Findings, Rules, lint};
 use jsonc_parser::ParseOptions;
 use std::alloc::Allocator;
 use std::fmt::Write;
@@ -72,13 +72,8 @@ pub static ROWS: [Row; 17] = [
     ),
 ];
 
-/// What came of linting the text of a row, printed.
-pub fn outcome_of<A: Allocator + Copy>(heap: A, (text, trailing_commas, wanted): Row) -> Outcome {
-    let rules = Rules { trailing_commas };
-    let findings = match lint(heap, text, &ParseOptions::default(), rules) {
-        Ok(findings) => findings,
-        Err(error) => return Outcome::from(error),
-    };
+/// Whether findings are printed so, each with its range.
+pub fn printed_as<A: Allocator>(heap: A, findings: &Findings<A>, wanted: &str) -> Outcome {
     let mut printed = String::new(heap);
     for finding in findings.iter() {
         let (line, column, range) = (finding.line, finding.column, finding.range);
@@ -92,6 +87,19 @@ pub fn outcome_of<A: Allocator + Copy>(heap: A, (text, trailing_commas, wanted):
         }
     }
     Outcome::of(printed.as_str() == wanted)
+}
+
+/// What came of linting the text of a row, printed.
+pub fn outcome_of<A: Allocator + Copy>(heap: A, (text, trailing_commas, wanted): Row) -> Outcome {
+    match lint(
+        heap,
+        text,
+        &ParseOptions::default(),
+        Rules { trailing_commas },
+    ) {
+        Ok(findings) => printed_as(heap, &findings, wanted),
+        Err(error) => Outcome::from(error),
+    }
 }
 
 #[test]

@@ -7,8 +7,9 @@ use failing_alloc::outcome::Outcome;
 use jsonc_parser::common::Range;
 use jsonc_parser::cst::CstRootNode;
 use jsonc_parser::{
-    JsonObject, JsonValue, LineAndColumn, LineIndex, ParseOptions, line_and_column,
-    line_and_column_utf16, parse_to_value, place_of, place_of_utf16, text_change, utf16_change,
+    JsonObject, JsonValue, LineAndColumn, LineIndex, ParseOptions, TextChange, Utf16Change,
+    line_and_column, line_and_column_utf16, parse_to_value, place_of, place_of_utf16, text_change,
+    utf16_change,
 };
 use std::alloc::{AllocError, Allocator, Global};
 use std::test::Fail;
@@ -86,6 +87,33 @@ fn changes_are_told_by_lines(rt: HostRuntime) {
         assert!(rt; change.end.line == end.0 && change.end.column == end.1);
         assert!(rt; change.new_text == *text);
     }
+}
+
+/// Whether a change begins and ends on line 2, in this column, and is on no other line.
+fn is_on_line_2(change: Option<Utf16Change<'_>>, column: usize) -> bool {
+    let Some(change) = change else {
+        return false;
+    };
+    let at = LineAndColumn { line: 2, column };
+    change.start == at
+        && change.end == at
+        && change.is_on_lines(1, 2)
+        && change.is_on_lines(2, 3)
+        && !change.is_on_lines(1, 1)
+        && !change.is_on_lines(3, 9)
+}
+
+#[test]
+fn an_index_tells_changes_by_lines(rt: HostRuntime) -> Result<(), Fail> {
+    let lines = LineIndex::new(rt.alloc(), "[\n\"😀\"1]")?;
+    let change = |start: usize, end: usize| TextChange {
+        range: Range::new(start, end),
+        new_text: " ",
+    };
+    assert!(rt; is_on_line_2(lines.utf16_change(change(8, 8)), 5));
+    assert!(rt; lines.utf16_change(change(4, 8)) == None);
+    assert!(rt; lines.utf16_change(change(8, 99)) == None);
+    Ok(())
 }
 
 #[test]

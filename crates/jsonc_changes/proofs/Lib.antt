@@ -1,0 +1,5 @@
+mod Common
+mod Pieces
+mod Blanks
+mod Going
+mod Formatted
