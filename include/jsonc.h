@@ -3,7 +3,8 @@
  * include/README.md says how to link it, and what is trusted.
  *
  * - A text is a pointer and a length. The pointer is not null, also where the length is 0: write "" and 0.
- * - Start a jsonc_text_t with JSONC_NO_TEXT, a jsonc_mends_t with JSONC_NO_MENDS, and a jsonc_fault_t with {0}.
+ * - Start a jsonc_text_t with JSONC_NO_TEXT, a jsonc_mends_t with JSONC_NO_MENDS, and a
+ *   jsonc_fault_t and a jsonc_style_t with {0}.
  * - What a call hands out is one block of malloc: free it with jsonc_free, and mends with jsonc_free_mends. On a status
  *   other than 0 there is none.
  * - Each call answers a status. Texts, names, paths and JSON texts are UTF-8. A path is a JSON text, an array of names.
@@ -162,6 +163,15 @@ enum jsonc_edit_kind {
   JSONC_EDIT_INSERT_COMMENT = 19, /* Inserts the comment in `name` above the element or property at the path, or after it if `first`. */
 };
 
+/* How lines end, and what a level of indent is, in a jsonc_style_t. */
+enum jsonc_style_number {
+  JSONC_LINE_END_LF = 1, /* LF. */
+  JSONC_LINE_END_CR_LF = 2, /* CR LF. */
+  JSONC_LINE_END_CR = 3, /* CR. */
+  JSONC_LEVEL_SPACES = 1, /* Spaces. */
+  JSONC_LEVEL_TAB = 2, /* A tab. */
+};
+
 #define JSONC_FAULT_TEXT_LEN 192
 
 /* What is wrong with a text, a pointer or a patch. All of it is 0 where none is at fault. */
@@ -203,6 +213,19 @@ JSONC_ASSERT(offsetof(jsonc_edit_t, json) == 40);
 JSONC_ASSERT(offsetof(jsonc_edit_t, index) == 56);
 JSONC_ASSERT(offsetof(jsonc_edit_t, first) == 64);
 JSONC_ASSERT(offsetof(jsonc_edit_t, second) == 65);
+
+/* How a text is formatted. With all of it 0 the text tells its line end and its indent. */
+typedef struct {
+  uint32_t line_end; /* How lines end. With no number of a line end, as the first one that ends outside of literals and comments, or with LF. */
+  uint32_t level; /* What one level of indent is. With no number of a level, the first indent in the value that is not empty, or two spaces. */
+  uint32_t spaces; /* How many spaces it is, where it is spaces; more than eight are eight. */
+  bool expand; /* Whether each array and object that is not empty is put on several lines. */
+} jsonc_style_t;
+JSONC_ASSERT(sizeof(jsonc_style_t) == 16);
+JSONC_ASSERT(offsetof(jsonc_style_t, line_end) == 0);
+JSONC_ASSERT(offsetof(jsonc_style_t, level) == 4);
+JSONC_ASSERT(offsetof(jsonc_style_t, spaces) == 8);
+JSONC_ASSERT(offsetof(jsonc_style_t, expand) == 12);
 
 /* A fault of a text, and the change for it. */
 typedef struct {
@@ -373,6 +396,17 @@ uint32_t jsonc_merge_patch(const void *text, size_t text_len, const void *patch,
 uint32_t jsonc_mend(const void *text, size_t text_len, uint32_t options, jsonc_text_t *out, jsonc_mends_t *mends);
 
 /*
+ * Hands out the text with the same literals, comments and punctuation in the same order, and with other blanks
+ * between them.
+ *
+ * 0: it is done. 1, 3 and 4 as of `jsonc_check`. An array or object that is on one line stays on it, and any
+ * other has each entry on a line of its own. The text can be longer than it was by its depth: a line begins
+ * with one level of indent for each array and object that is open.
+ */
+uint32_t jsonc_format(const void *text, size_t text_len, uint32_t options, const jsonc_style_t *style,
+                      jsonc_text_t *out, jsonc_fault_t *fault);
+
+/*
  * Writes the text that the document prints into a buffer, as `jsonc_print` hands it out.
  *
  * 17: the buffer is too small. `len` tells how long the text is then, too.
@@ -470,6 +504,14 @@ uint32_t jsonc_apply_patch_into(const void *text, size_t text_len, const void *p
  */
 uint32_t jsonc_merge_patch_into(const void *text, size_t text_len, const void *patch, size_t patch_len,
                                 uint32_t options, void *room, size_t room_len, size_t *len, jsonc_fault_t *fault);
+
+/*
+ * Writes the formatted text into a buffer, as `jsonc_format` hands it out.
+ *
+ * 17: the buffer is too small. `len` tells how long the text is then, too.
+ */
+uint32_t jsonc_format_into(const void *text, size_t text_len, uint32_t options, const jsonc_style_t *style,
+                           void *room, size_t room_len, size_t *len, jsonc_fault_t *fault);
 
 /* Frees a text that was handed out. */
 static inline void jsonc_free(jsonc_text_t text) {

@@ -1,5 +1,5 @@
 /* Each call from C: what it answers, threads that call at once, and each allocation refused in turn.
- * The last needs -Wl,--wrap=malloc,--wrap=realloc, and is left out where REFUSE is not defined. */
+ * The last needs -Wl,--wrap=malloc,--wrap=realloc,--wrap=free, and is left out where REFUSE is not defined. */
 #include "jsonc.h"
 #include <pthread.h>
 #include <stdio.h>
@@ -144,6 +144,31 @@ static void mends(void) {
   is(s == JSONC_NOT_UTF8 && out.len == 0 && list.len == 0, "bytes that are no UTF-8, to be mended");
 }
 
+/* By hand, from the rules in docs/COMMAND.md. */
+static void formats(void) {
+  const char *broken = "{ // head\n\n\"a\":[1,{}] } // end";
+  jsonc_style_t style = {0};
+  jsonc_fault_t fault = {0};
+  jsonc_text_t out = JSONC_NO_TEXT;
+  uint32_t s = jsonc_format(B("{\"a\":1,\"b\":[1,2]}"), JSONC_ALL, &style, &out, &fault);
+  is(made(s, out, "{ \"a\": 1, \"b\": [1, 2] }\n"), "what is on one line stays on it");
+  s = jsonc_format(B("{\r\n\t\"a\":1,\"b\":2}"), JSONC_ALL, &style, &out, &fault);
+  is(made(s, out, "{\r\n\t\"a\": 1,\r\n\t\"b\": 2\r\n}\r\n"), "the text tells its line end and its indent");
+  style = (jsonc_style_t){JSONC_LINE_END_CR, JSONC_LEVEL_SPACES, 9, true};
+  s = jsonc_format(B(broken), JSONC_ALL, &style, &out, &fault);
+  is(made(s, out, "{ // head\r\r        \"a\": [\r                1,\r                {}\r        ]\r} // end\r"), "a style");
+  style = (jsonc_style_t){JSONC_LINE_END_CR_LF, JSONC_LEVEL_TAB, 0, false};
+  s = jsonc_format(B("[\n1]"), JSONC_ALL, &style, &out, &fault);
+  is(made(s, out, "[\r\n\t1\r\n]\r\n"), "a tab");
+  style = (jsonc_style_t){JSONC_LINE_END_LF, 99, 3, false};
+  s = jsonc_format(B("[\r\n 1]"), JSONC_ALL, &style, &out, &fault);
+  is(made(s, out, "[\n 1\n]\n"), "another number than that of a level");
+  s = jsonc_format(B("[1,"), JSONC_ALL, &style, &out, &fault);
+  is(s == JSONC_TEXT && fault.kind == JSONC_KIND_UNTERMINATED_ARRAY && out.len == 0, "a text with a fault is not formatted");
+  s = jsonc_format(B("\xff"), JSONC_ALL, &style, &out, &fault);
+  is(s == JSONC_NOT_UTF8 && out.len == 0, "bytes that are no UTF-8, to be formatted");
+}
+
 /* The mended text alone. */
 static uint32_t mended(jsonc_text_t *out) {
   jsonc_mends_t list = JSONC_NO_MENDS;
@@ -169,6 +194,11 @@ static void lists(void) {
   is(s == JSONC_NO_SUCH_PLACE && fault.made == 0 && out.len == 0, "an edit without a place");
   s = jsonc_edit(B("[3]"), edits, 4, JSONC_ALL, &out, &fault);
   is(s == JSONC_NO_SUCH_EDIT && fault.made == 3 && out.len == 0, "an edit of no kind");
+  s = jsonc_edit(B("[3"), edits, 3, JSONC_ALL, &out, &fault);
+  is(s == JSONC_TEXT && fault.made == 0 && out.len == 0, "edits of a text that is no document");
+  fault.made = 3;
+  s = jsonc_edit(B("\xff"), edits, 3, JSONC_ALL, &out, &fault);
+  is(s == JSONC_NOT_UTF8 && fault.made == 0 && out.len == 0, "edits of bytes that are no UTF-8");
 }
 
 /* By hand: above on a line of its own with the entry's indent, after it one space behind its comma. */
@@ -214,7 +244,10 @@ static const jsonc_edit_t edits_refused[] = {
 #define MERGE "{\"b\": null, \"a\": {\"c\": {\"x\": null, \"y\": [1]}}, \"z\": 1}"
 
 /* The greatest number of a call, and of one into a buffer. */
-enum { LAST_CALL = 20, LAST_INTO = 12 };
+enum { LAST_CALL = 21, LAST_INTO = 13 };
+
+/* Each array and object on several lines, with tabs. */
+static const jsonc_style_t expanded = {JSONC_LINE_END_LF, JSONC_LEVEL_TAB, 0, true};
 
 /* One of the calls, by its number. */
 static uint32_t call(int which, jsonc_text_t *out, jsonc_fault_t *fault) {
@@ -232,13 +265,14 @@ static uint32_t call(int which, jsonc_text_t *out, jsonc_fault_t *fault) {
   case 10: return jsonc_find(B(text), B("/a/c"), JSONC_ALL, out, fault);
   case 11: return jsonc_apply_patch(B(text), B(PATCH), JSONC_ALL, out, fault);
   case 12: return jsonc_merge_patch(B(text), B(MERGE), JSONC_ALL, out, fault);
-  case 13: return jsonc_find(B(text), B("/~"), JSONC_ALL, out, fault);
-  case 14: return jsonc_apply_patch(B(text), B("[{\"op\": \"remove\"}]"), JSONC_ALL, out, fault);
-  case 15: return jsonc_apply_patch(B(text), B("[{\"op\": \"remove\", \"path\": \"/e\"}]"), JSONC_ALL, out, fault);
-  case 16: return jsonc_merge_patch(B(text), B("[{\"a\": 1, \"a\": 2}]"), JSONC_ALL, out, fault);
-  case 17: return jsonc_edit(B(text), edits_refused, 1, JSONC_ALL, out, fault);
-  case 18: return jsonc_edit(B(text), edits_refused + 1, 1, JSONC_ALL, out, fault);
-  case 19: return mended(out);
+  case 13: return jsonc_format(B(text), JSONC_ALL, &expanded, out, fault);
+  case 14: return jsonc_find(B(text), B("/~"), JSONC_ALL, out, fault);
+  case 15: return jsonc_apply_patch(B(text), B("[{\"op\": \"remove\"}]"), JSONC_ALL, out, fault);
+  case 16: return jsonc_apply_patch(B(text), B("[{\"op\": \"remove\", \"path\": \"/e\"}]"), JSONC_ALL, out, fault);
+  case 17: return jsonc_merge_patch(B(text), B("[{\"a\": 1, \"a\": 2}]"), JSONC_ALL, out, fault);
+  case 18: return jsonc_edit(B(text), edits_refused, 1, JSONC_ALL, out, fault);
+  case 19: return jsonc_edit(B(text), edits_refused + 1, 1, JSONC_ALL, out, fault);
+  case 20: return mended(out);
   default: return jsonc_check(B("[1,"), JSONC_ALL, fault);
   }
 }
@@ -257,7 +291,8 @@ static uint32_t call_into(int which, char *room, size_t size, size_t *len, jsonc
   case 9: return jsonc_edit_into(B(text), edits_made, 4, JSONC_ALL, room, size, len, fault);
   case 10: return jsonc_find_into(B(text), B("/a/c"), JSONC_ALL, room, size, len, fault);
   case 11: return jsonc_apply_patch_into(B(text), B(PATCH), JSONC_ALL, room, size, len, fault);
-  default: return jsonc_merge_patch_into(B(text), B(MERGE), JSONC_ALL, room, size, len, fault);
+  case 12: return jsonc_merge_patch_into(B(text), B(MERGE), JSONC_ALL, room, size, len, fault);
+  default: return jsonc_format_into(B(text), JSONC_ALL, &expanded, room, size, len, fault);
   }
 }
 
@@ -300,10 +335,25 @@ static void threads(void) {
 #ifdef REFUSE
 void *__real_malloc(size_t n);
 void *__real_realloc(void *p, size_t n);
+void __real_free(void *p);
 static long left = -1;
+/* How many blocks are out. No thread calls beside the calls that are counted. */
+static long out_now;
 static int refuses(void) { return left >= 0 && left-- == 0; }
-void *__wrap_malloc(size_t n) { return refuses() ? 0 : __real_malloc(n); }
-void *__wrap_realloc(void *p, size_t n) { return refuses() ? 0 : __real_realloc(p, n); }
+void *__wrap_malloc(size_t n) {
+  void *p = refuses() ? 0 : __real_malloc(n);
+  out_now += p != 0;
+  return p;
+}
+void *__wrap_realloc(void *p, size_t n) {
+  void *q = refuses() ? 0 : __real_realloc(p, n);
+  out_now += !p && q;
+  return q;
+}
+void __wrap_free(void *p) {
+  out_now -= p != 0;
+  __real_free(p);
+}
 
 /* So numbered, or, past the last of these, into a buffer, which is copied. */
 static uint32_t call_either(int which, jsonc_text_t *out, jsonc_fault_t *fault) {
@@ -311,7 +361,10 @@ static uint32_t call_either(int which, jsonc_text_t *out, jsonc_fault_t *fault) 
   char room[256];
   size_t len = 0;
   uint32_t s = call_into(which - LAST_CALL, room, sizeof room, &len, fault);
-  if (len) *out = (jsonc_text_t){memcpy(__real_malloc(len), room, len), len};
+  if (len) {
+    *out = (jsonc_text_t){memcpy(__real_malloc(len), room, len), len};
+    out_now++;
+  }
   return s;
 }
 
@@ -319,6 +372,7 @@ static void refusals(void) {
   for (int which = 0; which <= LAST_CALL + LAST_INTO; which++) {
     jsonc_text_t whole = JSONC_NO_TEXT;
     jsonc_fault_t fault = {0};
+    out_now = 0;
     uint32_t ample = call_either(which, &whole, &fault);
     int used = 1;
     for (long n = 0; used && n < 100000; n++) {
@@ -332,6 +386,7 @@ static void refusals(void) {
       jsonc_free(out);
     }
     jsonc_free(whole);
+    is(out_now == 0, "all memory is given back");
   }
 }
 #endif
@@ -341,6 +396,7 @@ int main(void) {
   patch_faults();
   texts();
   mends();
+  formats();
   lists();
   comments();
   buffers();

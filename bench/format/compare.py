@@ -1,5 +1,13 @@
-"""compare.py PROGRAM SEED COUNT: what `PROGRAM format` writes beside what the model does, of random documents, some of them damaged.
-compare.py PROGRAM -: the same of the files that standard input names."""
+#!/usr/bin/env python3
+"""Puts what the program's `format` writes beside a model of formatted texts (`layout.py`), which makes them without it.
+
+usage: bench/format/compare.py PROGRAM SEED COUNT
+       bench/format/compare.py PROGRAM - < NAMES
+
+PROGRAM is the built `jsonc`. Of each text the two must write the same bytes, or refuse it both. COUNT random documents come from the seed, under random options and
+styles, some of them damaged. With - the files that standard input names are read instead, each in its own style; one that is not UTF-8 or is longer than two million
+characters is passed over.
+"""
 import collections
 import random
 import subprocess
@@ -63,7 +71,7 @@ def main():
             if text and source.random() < .1:
                 text = damaged(source, text)
             compare(program, text, *source.choice(STYLES), seen, '')
-    print(dict(seen))
+    print('formatted texts: %d formatted, %d refused, %d passed over, %d differ' % tuple(seen[it] for it in ('formatted', 'refused', 'passed over', 'DIFFER')))
     return seen['DIFFER'] > 0
 
 

@@ -1,6 +1,7 @@
 //! The calls.
 use crate::edit::Edit;
 use crate::error::{Error, kind_of};
+use crate::format::Style;
 use crate::mends::{Mend, Mends};
 use crate::text::{NO_MENDS, Text, mends_of};
 use crate::{Options, ffi};
@@ -158,6 +159,19 @@ pub fn mend(text: &str, options: Options) -> Result<Mends, Error> {
     Ok(Mends { list: list.iter().map(mend).collect(), text })
 }
 
+/// The text with the same literals, comments and punctuation in the same order, and with other blanks between them.
+///
+/// An array or object that is on one line stays on it, and any other has each entry on a line of its own.
+pub fn format(text: &str, options: Options, style: Style) -> Result<Text, Error> {
+    let (mut out, mut fault, numbers) = (Text::NONE, no_fault(), style.numbers());
+    // SAFETY: as in `handed`; `numbers` too is this function's own.
+    let status = unsafe { ffi::jsonc_format(text.as_ptr(), text.len(), options.bits(), &numbers, &mut out, &mut fault) };
+    match status {
+        ffi::OK => Ok(Text::of(out)),
+        status => Err(Error::of(status, &fault, 0)),
+    }
+}
+
 /// Writes the text that the document prints into a buffer, and answers its length, as each of the next calls.
 pub fn print_into(text: &str, options: Options, room: &mut [u8]) -> Result<usize, Error> {
     filled!(jsonc_print_into, room, options, text)
@@ -228,4 +242,17 @@ pub fn apply_patch_into(text: &str, options: Options, patch: &str, room: &mut [u
 /// As [`merge_patch`].
 pub fn merge_patch_into(text: &str, options: Options, patch: &str, room: &mut [u8]) -> Result<usize, Error> {
     filled!(jsonc_merge_patch_into, room, options, text, patch)
+}
+
+/// As [`format`].
+pub fn format_into(text: &str, options: Options, style: Style, room: &mut [u8]) -> Result<usize, Error> {
+    let (mut len, mut fault, numbers) = (0, no_fault(), style.numbers());
+    // SAFETY: as in `format`; the buffer too is borrowed for the call.
+    let status = unsafe {
+        ffi::jsonc_format_into(text.as_ptr(), text.len(), options.bits(), &numbers, room.as_mut_ptr(), room.len(), &mut len, &mut fault)
+    };
+    match status {
+        ffi::OK => Ok(len),
+        status => Err(Error::of(status, &fault, len)),
+    }
 }

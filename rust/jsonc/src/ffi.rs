@@ -173,6 +173,17 @@ pub const EDIT_RENAME_PROPERTY: u32 = 18;
 /// Inserts the comment in `name` above the element or property at the path, or after it if `first`.
 pub const EDIT_INSERT_COMMENT: u32 = 19;
 
+/// LF.
+pub const LINE_END_LF: u32 = 1;
+/// CR LF.
+pub const LINE_END_CR_LF: u32 = 2;
+/// CR.
+pub const LINE_END_CR: u32 = 3;
+/// Spaces.
+pub const LEVEL_SPACES: u32 = 1;
+/// A tab.
+pub const LEVEL_TAB: u32 = 2;
+
 /// What is wrong with a text, a pointer or a patch. All of it is 0 where none is at fault.
 #[repr(C)]
 #[derive(Clone, Copy)]
@@ -232,6 +243,27 @@ const _: () = assert!(offset_of!(Edit, json) == 40);
 const _: () = assert!(offset_of!(Edit, index) == 56);
 const _: () = assert!(offset_of!(Edit, first) == 64);
 const _: () = assert!(offset_of!(Edit, second) == 65);
+
+/// How a text is formatted. With all of it 0 the text tells its line end and its indent.
+#[repr(C)]
+#[derive(Clone, Copy)]
+pub struct Style {
+    /// How lines end. With no number of a line end, as the first one that ends outside of literals and
+    /// comments, or with LF.
+    pub line_end: u32,
+    /// What one level of indent is. With no number of a level, the first indent in the value that is not empty,
+    /// or two spaces.
+    pub level: u32,
+    /// How many spaces it is, where it is spaces; more than eight are eight.
+    pub spaces: u32,
+    /// Whether each array and object that is not empty is put on several lines.
+    pub expand: bool,
+}
+const _: () = assert!(size_of::<Style>() == 16);
+const _: () = assert!(offset_of!(Style, line_end) == 0);
+const _: () = assert!(offset_of!(Style, level) == 4);
+const _: () = assert!(offset_of!(Style, spaces) == 8);
+const _: () = assert!(offset_of!(Style, expand) == 12);
 
 /// A fault of a text, and the change for it.
 #[repr(C)]
@@ -367,6 +399,14 @@ unsafe extern "C" {
     /// the text is.
     pub fn jsonc_mend(text: *const u8, text_len: usize, options: u32, out: *mut Slice<u8>, mends: *mut Slice<Mend>) -> u32;
 
+    /// Hands out the text with the same literals, comments and punctuation in the same order, and with other
+    /// blanks between them.
+    ///
+    /// 0: it is done. 1, 3 and 4 as of `jsonc_check`. An array or object that is on one line stays on it, and
+    /// any other has each entry on a line of its own. The text can be longer than it was by its depth: a line
+    /// begins with one level of indent for each array and object that is open.
+    pub fn jsonc_format(text: *const u8, text_len: usize, options: u32, style: *const Style, out: *mut Slice<u8>, fault: *mut Fault) -> u32;
+
     /// Writes the text that the document prints into a buffer, as `jsonc_print` hands it out.
     ///
     /// 17: the buffer is too small. `len` tells how long the text is then, too.
@@ -427,6 +467,11 @@ unsafe extern "C" {
     ///
     /// 17: the buffer is too small. `len` tells how long the text is then, too.
     pub fn jsonc_merge_patch_into(text: *const u8, text_len: usize, patch: *const u8, patch_len: usize, options: u32, room: *mut u8, room_len: usize, len: *mut usize, fault: *mut Fault) -> u32;
+
+    /// Writes the formatted text into a buffer, as `jsonc_format` hands it out.
+    ///
+    /// 17: the buffer is too small. `len` tells how long the text is then, too.
+    pub fn jsonc_format_into(text: *const u8, text_len: usize, options: u32, style: *const Style, room: *mut u8, room_len: usize, len: *mut usize, fault: *mut Fault) -> u32;
 
     /// The C library's.
     pub fn free(at: *mut c_void);

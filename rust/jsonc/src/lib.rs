@@ -17,14 +17,16 @@ mod calls;
 mod edit;
 mod error;
 mod ffi;
+mod format;
 mod mends;
 mod text;
 
-pub use calls::{append, apply_patch, check, drop_at, edit, find, get, mend, merge_patch, print, put, remove, set, sort};
-pub use calls::{append_into, apply_patch_into, drop_at_into, edit_into, find_into, get_into, merge_patch_into};
+pub use calls::{append, apply_patch, check, drop_at, edit, find, format, get, mend, merge_patch, print, put, remove, set, sort};
+pub use calls::{append_into, apply_patch_into, drop_at_into, edit_into, find_into, format_into, get_into, merge_patch_into};
 pub use calls::{print_into, put_into, remove_into, set_into, sort_into};
 pub use edit::{Edit, Place, Shape};
 pub use error::{Error, Fault};
+pub use format::{Level, LineEnd, Style};
 pub use mends::{Mend, Mends};
 pub use text::Text;
 

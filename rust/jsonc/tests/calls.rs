@@ -1,6 +1,7 @@
 //! Each call: its text, its faults, and its threads.
-use jsonc::{Edit, Error, Options, Place, Shape, append, apply_patch, check, drop_at, edit, find, get, mend, merge_patch, print, put};
-use jsonc::{append_into, apply_patch_into, drop_at_into, edit_into, find_into, get_into, merge_patch_into, print_into};
+use jsonc::{Edit, Error, Level, LineEnd, Options, Place, Shape, Style, append, apply_patch, check, drop_at, edit, find, format, get, mend};
+use jsonc::{merge_patch, print, put};
+use jsonc::{append_into, apply_patch_into, drop_at_into, edit_into, find_into, format_into, get_into, merge_patch_into, print_into};
 use jsonc::{put_into, remove, remove_into, set, set_into, sort, sort_into};
 
 const TEXT: &str = "{\n  // one\n  \"a\": 1, // first\n  \"b\": {\"c\": [1, 2]},\n}\n";
@@ -52,6 +53,30 @@ fn every_fault_has_a_change() {
     assert_eq!(mends.list[1].fault, 22..23);
     let document = mend(TEXT, Options::JSONC).expect("it is mended");
     assert_eq!((&*document.text, document.list.len()), (TEXT, 0));
+}
+
+#[test]
+fn a_text_is_formatted() {
+    // (by hand, from the rules in docs/COMMAND.md)
+    let own = Style::default();
+    let rows = [
+        ("{\"a\":1,\"b\":[1,2]}", own, "{ \"a\": 1, \"b\": [1, 2] }\n"),
+        ("{\r\n\t\"a\":1,\"b\":2}", own, "{\r\n\t\"a\": 1,\r\n\t\"b\": 2\r\n}\r\n"),
+        ("[1 // one\n, 2]", own, "[\n  1 // one\n  ,\n  2\n]\n"),
+        ("[[1]]", Style { line_end: Some(LineEnd::Cr), level: Some(Level::Spaces(1)), expand: true }, "[\r [\r  1\r ]\r]\r"),
+        ("[\n1]", Style { line_end: Some(LineEnd::CrLf), level: Some(Level::Tab), expand: false }, "[\r\n\t1\r\n]\r\n"),
+        ("[\r\n 1]", Style { line_end: Some(LineEnd::Lf), ..own }, "[\n 1\n]\n"),
+        ("", own, ""),
+    ];
+    for (text, style, formatted) in rows {
+        assert_eq!(made(format(text, Options::ALL, style)), formatted, "{text}");
+        assert_eq!(made(format(formatted, Options::ALL, style)), formatted, "{text}, twice");
+        let mut room = vec![0; formatted.len()];
+        assert_eq!(format_into(text, Options::ALL, style, &mut room), Ok(formatted.len()));
+        assert_eq!(room, formatted.as_bytes());
+    }
+    assert_eq!(format_into("[1]", Options::ALL, own, &mut [0; 3]), Err(Error::NoRoom(4)));
+    assert!(matches!(format("[1,]", Options::JSON, own), Err(Error::Text(_))));
 }
 
 #[test]
