@@ -24,6 +24,11 @@ pub mod Inserting
 pub mod Places
 pub mod Bare
 pub mod Replacing
+pub mod LeafEnds
+pub mod NothingBeside
+pub mod NothingBehind
+pub mod Trails
+pub mod BlanksGone
 pub mod Commenting
 pub mod CommasLeft
 pub mod Removing
