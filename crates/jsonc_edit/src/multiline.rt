@@ -1,6 +1,6 @@
 //! Arrays and objects that are put on several lines.
 //!
-//! What stands between the brackets is read in parts, each through its comma; each comes on a line of
+//! What stands between the brackets is read in parts, each through its comma; each is put on a line of
 //! its own, without the whitespace around it, and the last bracket on one too (`specs/multiline/Lines.antt`). A
 //! row is planned before anything changes: its places, and the nodes that fill them, children that stay
 //! and leaves that were made (`specs/multiline/Plans.antt`). Then all take their places at once, so an error

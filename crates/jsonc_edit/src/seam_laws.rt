@@ -9,12 +9,12 @@ ghost use Rattle.jsonc_edit.specs.SeamLaws.{CommentHasSeam, HasSeams, TellsWhatI
 ghost use Rattle.jsonc_edit.specs.Seams.{SpacesStandAround, SpaceStandsBetween};
 
 /// The spaces that are due around a node stand directly before it, and directly before what is printed
-/// behind it.
+/// after it.
 pub fn spaces_stand_around()
     ensures { (ready spaced : List Node) (n : ℕ) (content : Content) → SpacesStandAround ready spaced n content }
 {}
 
-/// The space that is due where siblings leave stands directly before what is printed behind them.
+/// The space that is due where siblings are removed stands directly before what is printed after them.
 pub fn space_stands_between()
     ensures { (ready spaced : List Node) (from to : ℕ) → SpaceStandsBetween ready spaced from to }
 {}
@@ -25,7 +25,7 @@ pub fn values_give_way_with_seams()
     ensures { (old new : List Node) (n m : ℕ) (now : Top) → HasSeams old new n m now }
 {}
 
-/// Where a comment is taken out, a space comes where it stood, or none, and nothing else; before the
+/// Where a comment is taken out, a space is inserted where it stood, or none, and nothing else; before the
 /// comment of a number stand so many.
 pub fn comments_leave_with_seam()
     ensures { (old new : List Node) (n : ℕ) → CommentHasSeam old new n }

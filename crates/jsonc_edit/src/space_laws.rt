@@ -9,7 +9,7 @@ ghost use Rattle.jsonc_edit.specs.SpaceLaws.{KeepsElements, NoneDueAround, PutsS
 ghost use Rattle.jsonc_edit.specs.Meeting.{NearestTell, NoneDueWithCommas};
 ghost use Rattle.jsonc_edit.specs.remove.Laws.{CommentWantsNone, ElementWantsNone};
 
-/// A space that is put before an element, behind another child, has come into the document there, and
+/// A space that is put before an element, after another child, has been inserted into the document there, and
 /// nothing else has.
 pub fn spaces_come_before_elements()
     ensures { (old new : List Node) (n space : ℕ) → PutsSpace old new n space }
@@ -33,7 +33,7 @@ pub fn nearest_tell()
 {}
 
 /// So in a sound document in which commas may not be missing no space is due where a value, a property, a
-/// name or a comment leaves: what a removal wants memory for is never so, and it is not refused for it.
+/// name or a comment is removed: what a removal wants memory for is never so, and it is not refused for it.
 pub fn removals_want_no_memory()
     ensures element { (o : Options) (ns : List Node) (n : ℕ) → ElementWantsNone o ns n }
     ensures comment { (o : Options) (ns : List Node) (n : ℕ) → CommentWantsNone o ns n }

@@ -8,7 +8,7 @@ ghost use Rattle.jsonc_edit.specs.remove.CommentLaws.{ClearsComments};
 ghost use Rattle.jsonc_edit.specs.remove.Laws.{RemovesEntry, RemovesValue, TakesEntry, TakesValue};
 
 /// Where an element of a container at a path of a sound document is taken out, spaces come where two
-/// literals without quotes would meet, and then it leaves the container's row, with what goes with it;
+/// literals without quotes would meet, and then it is removed from the container's row, with what goes with it;
 /// and so does the document's value.
 pub fn elements_are_taken_out()
     ensures entry { (o : Options) (old new : List Node) (path : List ℕ) (c i n : ℕ) → TakesEntry o old new path c i n }
@@ -24,7 +24,7 @@ pub fn removed_elements_are_gone()
 {}
 
 /// Where comments of an array or object of a sound document leave, the text is a document again, with the
-/// value that it had, or none as before; of its leaves comments alone have left, with whitespace and ends of
+/// value that it had, or none as before; of its leaves comments alone have been removed, with whitespace and ends of
 /// lines beside them; and the document is sound. It is so under all options.
 pub fn comments_are_cleared()
     ensures { (o : Options) (old new : List Node) (c : ℕ) (ns : List ℕ) → ClearsComments o old new c ns }

@@ -33,10 +33,10 @@ use Rattle.jsonc_insert.proofs.Counting.{found_last, planned_count}
 use Rattle.jsonc_insert.proofs.BeforeTheBracket.{stands_inside}
 use Rattle.jsonc_edit.proofs.Lists.{either_off, no_length}
 use Rattle.jsonc_edit.proofs.lemmas.commas.CommaRows.{last_joined}
-use Rattle.jsonc_edit.proofs.Standing.{standing}
+use Rattle.jsonc_edit.proofs.Standing.{standing, standing_then}
 use Rattle.jsonc_insert.specs.elements.Coming.{takes_element}
-use Rattle.jsonc_insert.proofs.lemmas.elements.Rows.{IsRow}
-use Rattle.jsonc_insert.proofs.lemmas.elements.RowsOfTrees.{AllAre, comma_first, standing_comma, standing_count, standing_then}
+use Rattle.jsonc_edit.proofs.lemmas.multiline.SoundRows.{IsRow}
+use Rattle.jsonc_insert.proofs.lemmas.elements.RowsOfTrees.{AllAre, comma_first, standing_comma, standing_count}
 use Rattle.jsonc_insert.proofs.lemmas.elements.Stretches.{comma_past, none_comes_first, without_elements}
 
 beside_last : (last : Last) (content : Content) → is_inline_trivia content ≡ true → last_after last content ≡ last
