@@ -2,6 +2,7 @@
 //! the status alone tells.
 use jsonc_engine::fault::Fault;
 use jsonc_files::FileError;
+use jsonc_files::record::Step;
 use jsonc_lint::shown_name;
 use jsonc_parser::errors::ParseError;
 use jsonc_program::argument::lacks_quotes;
@@ -140,8 +141,11 @@ pub(crate) fn tell_place(rt: &HostRuntime, word: &str) {
     tell(rt, place_line(rt, word));
 }
 
-/// Tells why a file was not edited.
+/// Tells why a file was not edited. Where the name leads to no file, that is told as of a file that is read.
 pub(crate) fn tell_file_error(rt: &HostRuntime, input: Input<'_>, error: &FileError) {
+    if let FileError::Failed(Step::OpenFolder, error) = error {
+        return tell_unread(rt, input, error);
+    }
     match format!(in rt.alloc(); "{error}") {
         Ok(told) => tell_cause(rt, input, told.as_str()),
         Err(_) => tell_cause(rt, input, "Cannot be edited"),

@@ -52,16 +52,19 @@ use Rattle.jsonc_parser.specs.declared.patch.putting.PutError.TheVariants as put
 use Rattle.jsonc_parser.proofs.lemmas.patch.Nodes.{object_content}
 use Rattle.jsonc_parser.proofs.lemmas.paths.Found.{no_object}
 use Rattle.jsonc_parser.proofs.lemmas.paths.TakenValues.{nodes_have_values}
+use Rattle.jsonc_engine.specs.Sorting.{IsSorted}
 use Rattle.jsonc_engine.specs.declared.fault.Fault.TheVariants as told
 use Rattle.jsonc_program.specs.declared.edit.fault.EditFault.{EditFault}
 use Rattle.jsonc_program.specs.declared.edit.fault.EditFault.TheVariants as faults
-use Rattle.jsonc_program.specs.edit.Asked.{Asked, comment, put, remove, rename, replace, sort}
+use Rattle.jsonc_program.specs.declared.edit.task.Step.{Step}
+use Rattle.jsonc_program.specs.declared.edit.task.Step.TheVariants as steps
+use Rattle.jsonc_program.specs.edit.Asked.{Asked, asked_there, comment, edit_at, put, remove, rename, replace, sort}
 use Rattle.jsonc_program.specs.edit.Faults.{FailsWhatShown, IsRefusedThere, IsWhyNot, is_nothing, needed}
 use Rattle.jsonc_program.specs.edit.Making.{IsMadeIn, MadeBy, MakesWhatShown, MayStay}
 use Rattle.jsonc_program.specs.edit.Routes.{IsLedOver, IsLedTo, LeadsBy, LeadsNowhere, LeadsOver, LeadsWhere, Route}
-use Rattle.jsonc_program.specs.edit.Sorting.{HasSorted, SortsAt, SortsObjects, SortsWhatShown}
+use Rattle.jsonc_program.specs.edit.Sorting.{SortsAt, SortsInside, SortsWhatShown, objects_in}
 use Rattle.jsonc_program.proofs.EditMade.{one_made_of, run_options, stands_there}
-use Rattle.jsonc_program.proofs.EditSorts.{over_place}
+use Rattle.jsonc_program.proofs.EditSorts.{object_sorted, objects_over}
 
 all_one : {A : Type 0} (P : A → Type 0) (x : A) → P x → All P (x ∷ [])
 all_one P x h zero d low = h
@@ -95,22 +98,22 @@ module _ {A : Type 0} (old new : CstRootNode A) (route : Route) (path : Vec ℕ 
         made = (w.0, w.1, w.2, subst (λ p. MadeBy (op p) d e.0) w.3 run);
       }
 
-  pub replace_made : (value : CstInputValue A) → EditsTheText (tree_of old) (Replace path value ∷ []) (tree_of new) → MakesWhatShown (replace route (plain value)) old new
+  replace_made : (value : CstInputValue A) → EditsTheText (tree_of old) (Replace path value ∷ []) (tree_of new) → MakesWhatShown (replace route (plain value)) old new
   replace_made value edits d shown may =
       let m = made_there (Replace path value) (λ p. texts.replace p (plain value)) (λ w order it is. is) (λ o. refl) edits d shown may in
       (m.e, m.shown, record { options = m.options; within = m.within; makes = m.made })
 
-  pub rename_made : (name : String A) → EditsTheText (tree_of old) (RenameProperty path name ∷ []) (tree_of new) → MakesWhatShown (rename route (chars_of name)) old new
+  rename_made : (name : String A) → EditsTheText (tree_of old) (RenameProperty path name ∷ []) (tree_of new) → MakesWhatShown (rename route (chars_of name)) old new
   rename_made name edits d shown may =
       let m = made_there (RenameProperty path name) (λ p. texts.rename_property p (chars_of name)) (λ w order it is. is) (λ o. refl) edits d shown tt in
       (m.e, m.shown, record { options = m.options; within = m.within; makes = m.made })
 
-  pub comment_made : (place : sides.Place) (text : String A) → EditsTheText (tree_of old) (InsertComment path place text ∷ []) (tree_of new) → MakesWhatShown (comment route place (chars_of text)) old new
+  comment_made : (place : sides.Place) (text : String A) → EditsTheText (tree_of old) (InsertComment path place text ∷ []) (tree_of new) → MakesWhatShown (comment route place (chars_of text)) old new
   comment_made place text edits d shown may =
       let m = made_there (InsertComment path place text) (λ p. texts.insert_comment p place (chars_of text)) (λ w order it is. is) (λ o. refl) edits d shown may in
       (m.e, m.shown, record { options = m.options; within = m.within; makes = m.made })
 
-  pub remove_made : (in_object : Bool) → EditsTheText (tree_of old) (Remove path ∷ []) (tree_of new) → MakesWhatShown (remove route in_object false true) old new
+  remove_made : (in_object : Bool) → EditsTheText (tree_of old) (Remove path ∷ []) (tree_of new) → MakesWhatShown (remove route in_object false true) old new
   remove_made in_object edits d shown may =
       let m = made_there (Remove path) (λ p. texts.remove p) (λ w order it is. is) (λ o. refl) edits d shown tt in
       (m.e, m.shown, record { options = m.options; within = m.within; makes = inl m.made })
@@ -121,7 +124,7 @@ module _ {A : Type 0} (old new : CstRootNode A) (route : Route) (path : Vec ℕ 
       let w = led d shown in
       (w.1, subst (λ p. StandsAt w.1 p d.value) (sym w.3) (stands_there route d.value w.0 w.1 w.2))
 
-  pub replace_refused : (value : CstInputValue A) (why : EditError) → IsRefusedThere old (Replace path value) why → FailsWhatShown {A = A} (replace route (plain value)) old (faults.Engine (told.Edit why))
+  replace_refused : (value : CstInputValue A) (why : EditError) → IsRefusedThere old (Replace path value) why → FailsWhatShown {A = A} (replace route (plain value)) old (faults.Engine (told.Edit why))
   replace_refused value OutOfMemory refused d shown = tt
   replace_refused value NestingDepthExceeded refused d shown =
       let w = led d shown in
@@ -129,18 +132,18 @@ module _ {A : Type 0} (old new : CstRootNode A) (route : Route) (path : Vec ℕ 
   replace_refused value NoSuchPlace refused d shown = absurd ((refused d shown).1 refl (stands d shown))
   replace_refused value why refused d shown = absurd (refused d shown).0
 
-  pub rename_refused : (name : String A) (why : EditError) → why ≢ NoSuchPlace → IsRefusedThere old (RenameProperty path name) why → FailsWhatShown {A = A} (rename route (chars_of name)) old (faults.Engine (told.Edit why))
+  rename_refused : (name : String A) (why : EditError) → why ≢ NoSuchPlace → IsRefusedThere old (RenameProperty path name) why → FailsWhatShown {A = A} (rename route (chars_of name)) old (faults.Engine (told.Edit why))
   rename_refused name OutOfMemory other refused d shown = tt
   rename_refused name NestingDepthExceeded other refused d shown = absurd (let deep : 512 < 0 = (refused d shown).0 in omega (arith, deep))
   rename_refused name NoSuchPlace other refused d shown = absurd (other refl)
   rename_refused name why other refused d shown = absurd (refused d shown).0
 
-  pub no_property_there : (name : String A) → IsRefusedThere old (RenameProperty path name) NoSuchPlace → FailsWhatShown {A = A} (rename route (chars_of name)) old faults.NotProperty
+  no_property_there : (name : String A) → IsRefusedThere old (RenameProperty path name) NoSuchPlace → FailsWhatShown {A = A} (rename route (chars_of name)) old faults.NotProperty
   no_property_there name refused d shown =
       let w = led d shown in
       (w.0, w.1, w.2, subst (λ p. ¬ (HasPropertyAt p d.value)) w.3 ((refused d shown).1 refl))
 
-  pub comment_refused : (place : sides.Place) (text : String A) (why : EditError) → IsRefusedThere old (InsertComment path place text) why → FailsWhatShown {A = A} (comment route place (chars_of text)) old (faults.Engine (told.Edit why))
+  comment_refused : (place : sides.Place) (text : String A) (why : EditError) → IsRefusedThere old (InsertComment path place text) why → FailsWhatShown {A = A} (comment route place (chars_of text)) old (faults.Engine (told.Edit why))
   comment_refused place text OutOfMemory refused d shown = tt
   comment_refused place text NestingDepthExceeded refused d shown = absurd (let deep : 512 < 0 = (refused d shown).0 in omega (arith, deep))
   comment_refused place text NoSuchPlace refused d shown = absurd ((refused d shown).1 refl (stands d shown))
@@ -149,11 +152,37 @@ module _ {A : Type 0} (old new : CstRootNode A) (route : Route) (path : Vec ℕ 
   comment_refused Above text LineContinues refused d shown = absurd (refused d shown).0
   comment_refused place text why refused d shown = absurd (refused d shown).0
 
-  pub remove_refused : (in_object : Bool) (why : EditError) → IsRefusedThere old (Remove path) why → FailsWhatShown {A = A} (remove route in_object false true) old (faults.Engine (told.Edit why))
+  remove_refused : (in_object : Bool) (why : EditError) → IsRefusedThere old (Remove path) why → FailsWhatShown {A = A} (remove route in_object false true) old (faults.Engine (told.Edit why))
   remove_refused in_object OutOfMemory refused d shown = tt
   remove_refused in_object NestingDepthExceeded refused d shown = absurd (let deep : 512 < 0 = (refused d shown).0 in omega (arith, deep))
   remove_refused in_object NoSuchPlace refused d shown = absurd ((refused d shown).1 refl (stands d shown))
   remove_refused in_object why refused d shown = absurd (refused d shown).0
+
+  -- so it is of each edit that may be made there
+  pub there_made : (in_object : Bool) (step : Step A) → EditsTheText (tree_of old) (edit_at path step ∷ []) (tree_of new) → MakesWhatShown (asked_there route in_object step) old new
+  there_made in_object (steps.Replace value) edits = replace_made value edits
+  there_made in_object steps.Remove edits = remove_made in_object edits
+  there_made in_object (steps.Rename name) edits = rename_made name edits
+  there_made in_object (steps.Comment place text) edits = comment_made place text edits
+
+  pub there_refused : (in_object : Bool) (step : Step A) (why : EditError) → why ≢ NoSuchPlace → IsRefusedThere old (edit_at path step) why → FailsWhatShown {A = A} (asked_there route in_object step) old (faults.Engine (told.Edit why))
+  there_refused in_object (steps.Replace value) why other refused = replace_refused value why refused
+  there_refused in_object steps.Remove why other refused = remove_refused in_object why refused
+  there_refused in_object (steps.Rename name) why other refused = rename_refused name why other refused
+  there_refused in_object (steps.Comment place text) why other refused = comment_refused place text why refused
+
+  pub there_nothing : (in_object : Bool) (step : Step A) → IsRefusedThere old (edit_at path step) NoSuchPlace → FailsWhatShown {A = A} (asked_there route in_object step) old faults.NotProperty
+  there_nothing in_object (steps.Replace value) refused d shown = absurd ((refused d shown).1 refl (stands d shown))
+  there_nothing in_object steps.Remove refused d shown = absurd ((refused d shown).1 refl (stands d shown))
+  there_nothing in_object (steps.Rename name) refused d shown = no_property_there name refused d shown
+  there_nothing in_object (steps.Comment place text) refused d shown = absurd ((refused d shown).1 refl (stands d shown))
+
+-- something has to be there
+pub needed_there : {A : Type 0} (route : Route) (in_object : Bool) (step : Step A) → needed (asked_there route in_object step) ≡ Some route
+needed_there route in_object (steps.Replace value) = refl
+needed_there route in_object steps.Remove = refl
+needed_there route in_object (steps.Rename name) = refl
+needed_there route in_object (steps.Comment place text) = refl
 
 -- what leaves where something has to be leaves where nothing has to be too
 pub removed_anyhow : {A : Type 0} (old new : CstRootNode A) (route : Route) (in_object with_comments must_exist : Bool) → MakesWhatShown (remove route in_object with_comments true) old new → MakesWhatShown (remove route in_object with_comments must_exist) old new
@@ -208,19 +237,21 @@ module _ {A : Type 0} (old new : CstRootNode A) (v : Plain) (ts : List (List ℕ
 
 -- a sort
 module _ {A : Type 0} (old new : CstRootNode A) (tree : IsTree (nodes_of old)) (route : Route) (node : CstNode) (held : HasNode old node) (led : IsLedTo old route (Some node)) (keeps_headers : Bool) where
-  pub sort_made : (x : CstObject) → node ≡ object_node x → HasSorted (nodes_of old) (nodes_of new) x.number → MakesWhatShown (sort route false keeps_headers) old new
+  pub sort_made : (x : CstObject) → node ≡ object_node x → IsSorted keeps_headers old new x → MakesWhatShown (sort route false keeps_headers) old new
   sort_made x is sorted d shown may =
       let w = led d shown in
       let at : IsAt (nodes_of old) w.0 x.number = subst (λ n. IsAt (nodes_of old) w.0 (number_of n)) is w.3 in
-      let m = over_place old new x tree (subst (HasNode old) is held) sorted (over_at (nodes_of old) tree w.0 x.number at) d shown in
-      let same : m.0 ≡ w.0 = path_once (nodes_of old) tree m.0 w.0 x.number m.1 at in
-      (m.2, m.3, record { options = m.4; within = m.5; makes = (w.0, w.1, w.2, subst (λ p. SortsAt p d m.2) same m.6) })
+      let m = object_sorted keeps_headers old new x tree (subst (HasNode old) is held) sorted (over_at (nodes_of old) tree w.0 x.number at) d shown in
+      let same : m.4 ≡ w.0 = path_once (nodes_of old) tree m.4 w.0 x.number m.5.at at in
+      let there : SortsAt keeps_headers m.4 d m.0 = record { old = nodes_of old; new = nodes_of new; shown = shown; n = x.number; sorted = m.5 } in
+      (m.0, m.1, record { options = m.2; within = m.3; makes = (w.0, w.1, w.2, subst (λ p. SortsAt keeps_headers p d m.0) same there) })
 
-  pub sort_all_made : SortsWhatShown old new → MakesWhatShown (sort route true keeps_headers) old new
+  pub sort_all_made : SortsWhatShown keeps_headers (objects_in (nodes_of old) (number_of node)) old new → MakesWhatShown (sort route true keeps_headers) old new
   sort_all_made sorted d shown may =
       let w = led d shown in
-      let m = sorted d shown in
-      (m.0, m.1, record { options = m.2; within = m.3; makes = (w.0, w.1, w.2, m.4) })
+      let m = sorted (objects_over (nodes_of old) tree (number_of node) (over_at (nodes_of old) tree w.0 (number_of node) w.3)) d shown in
+      let inside : SortsInside keeps_headers w.0 d m.0 = record { old = nodes_of old; new = nodes_of new; shown = shown; n = number_of node; at = w.3; sorted = m.4 } in
+      (m.0, m.1, record { options = m.2; within = m.3; makes = (w.0, w.1, w.2, inside) })
 
   pub not_sorted : ((x : CstObject) → node ≡ object_node x → ⊥) → FailsWhatShown {A = A} (sort route false keeps_headers) old faults.NotSorted
   not_sorted other d shown =

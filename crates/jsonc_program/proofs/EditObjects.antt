@@ -1,26 +1,14 @@
--- The elements of an object in a sound document, and their order by names.
-use Rattle.std.proofs.Common.{◌≡◌, ◌∙◌, ℕ, zero, suc, ◌+◌, ◌<◌, Bool, true, false, not, ◌&&◌, List, [], ◌∷◌, All, filter, get_or, length, map, slice_get, Option, Some, None, inl, inr, refl, sym, ap, subst, arith}
+-- The elements of an object in a sound document are properties.
+use Rattle.std.proofs.Common.{◌≡◌, ◌∙◌, ℕ, zero, suc, ◌<◌, List, [], ◌∷◌, filter, length, slice_get, Some, inl, inr, refl, sym, ap, subst}
 use Rattle.std.proofs.lemmas.Bool.{cases_Bool, false≢true}
-use Rattle.std.proofs.lemmas.Cmp.{nat_list_cmp_total}
-use Rattle.std.proofs.lemmas.List.{get_or-map, length-map}
-use Rattle.std.proofs.lemmas.List.FromFn.{get_or-range_with_len, length-range_with_len}
-use Rattle.std.proofs.lemmas.List.Sorted.{All-permutation, ranks_by}
-use Rattle.std.specs.Cmp.Lexicographic.{slice_cmp}
-use Rattle.std.specs.List.Sorted.{ties}
-use Rattle.std.specs.Ordering.{is_lt, nat_cmp}
-use Rattle.std.specs.Prelude.{slice_index}
-use Rattle.std.specs.declared.cmp.Ordering.{Ordering}
 use Rattle.jsonc_edit.proofs.Uniqueness.{over_at}
 use Rattle.jsonc_edit.proofs.lemmas.commas.Holders.{Held}
-use denote.Ref.{Bor}
-use denote.Param.Members.{Shared}
 use Rattle.jsonc_text.specs.Options.{Options}
 use Rattle.jsonc_tree.specs.Content as content
 use Rattle.jsonc_tree.specs.Content.{Content, object, property}
 use Rattle.jsonc_tree.specs.OrderedTree.{OrderedTree, none, more, Shows, shows_none, shows_more, ordered_tree}
 use Rattle.jsonc_tree.specs.Tree.{Node, content_at, children_at, IsTree}
 use Rattle.jsonc_layout.specs.nodes.Kinds.{is_element_at}
-use Rattle.jsonc_layout.specs.nodes.Siblings.{elements_at}
 use Rattle.jsonc_layout.specs.lines.Kinds.{is_array_or_object}
 use Rattle.jsonc_sound.specs.Alone as alone
 use Rattle.jsonc_sound.specs.Alone.{RowAlone}
@@ -32,26 +20,8 @@ use Rattle.jsonc_edit.specs.Changes.{row_below}
 use Rattle.jsonc_edit.specs.Paths.{IsAt, IsElementOf}
 use Rattle.jsonc_edit.proofs.Elements.{taken, left}
 use Rattle.jsonc_edit.proofs.FittingNodes.{over_there}
-use Rattle.jsonc_edit.proofs.NodesKept.{filter_same}
 use Rattle.jsonc_edit.proofs.ChangesUpward.{Shows-row_below}
 use Rattle.jsonc_edit.proofs.lemmas.remove.Containers.{held_at}
-use Rattle.jsonc_run.specs.Edits.{rearrange}
-use Rattle.jsonc_run.specs.promise.Steps.{IsStep}
-use Rattle.jsonc_sort.specs.ordering.Asking.{ComparesBy}
-use Rattle.jsonc_sort.specs.ordering.Order.{IsOrderedBy, comes_before, node_in, option_before}
-use Rattle.jsonc_sort.specs.Rearranged.{headers_of}
-use Rattle.jsonc_cst.specs.declared.cst.CstRootNode.{CstRootNode}
-use Rattle.jsonc_cst.specs.declared.cst.node.CstNode.{CstNode}
-use Rattle.jsonc_cst.specs.declared.cst.node.CstObject.{CstObject}
-use Rattle.jsonc_cst.specs.declared.cst.node.CstObjectProp.{CstObjectProp}
-use Rattle.jsonc_cst.specs.Document.{nodes_of, HasNode}
-use Rattle.jsonc_cst.specs.Nodes.{object_node, object_prop_node, typed, typed_at}
-use Rattle.jsonc_cst.specs.Readings.{property_under}
-use Rattle.jsonc_cst.specs.sorting.Asking.{IsInItsOrder}
-use Rattle.jsonc_cst.specs.sorting.Rows.{property_if}
-use Rattle.jsonc_cst.specs.sorting.Sorted.{PropertiesSorted}
-use Rattle.jsonc_engine.specs.Sorting.{IsByName, has_less_name, is_less, numbers_in, written_name}
-use Rattle.jsonc_program.specs.edit.Sorting.{HasSorted}
 
 -- each element of the row is a property
 abbrev AreProperties : OrderedTree → Type 0
@@ -69,23 +39,6 @@ row_of_object o of_values c e is g = let wrong : content.array ≡ object = sym 
 row_of_object o of_properties c e is g = row_of_properties o g
 
 module _ (ns : List Node) where
-  -- what a sort asks of, where all elements are properties
-  abbrev asked : List ℕ → List (Option CstObjectProp)
-  asked xs = map property_if (map (typed_at ns) xs)
-
-  abbrev named : List ℕ → List (Option CstObjectProp)
-  named xs = map (λ (n : ℕ). Some (property_under n)) xs
-
-  one_asked : (n : ℕ) → content_at ns n ≡ property → property_if (typed_at ns n) ≡ Some (property_under n)
-  one_asked n is = ap (λ w. property_if (typed w n)) is
-
-  more_asked : (n : ℕ) (xs : List ℕ) → content_at ns n ≡ property → asked xs ≡ named xs → asked (n ∷ xs) ≡ named (n ∷ xs)
-  more_asked n xs is later = ap (λ (p : Option CstObjectProp). p ∷ asked xs) (one_asked n is) ∙ ap (λ (l : List (Option CstObjectProp)). Some (property_under n) ∷ l) later
-
-  all_asked : (xs : List ℕ) → ((i n : ℕ) → slice_get xs i ≡ Some n → content_at ns n ≡ property) → asked xs ≡ named xs
-  all_asked [] all = refl
-  all_asked (n ∷ xs) all = more_asked n xs (all 0 n refl) (all_asked xs (λ i m e. all (suc i) m e))
-
   head_or_later : (n m : ℕ) (rest : List ℕ) → content_at ns n ≡ property → ((i : ℕ) → slice_get rest i ≡ Some m → content_at ns m ≡ property) → (i : ℕ) → slice_get (n ∷ rest) i ≡ Some m → content_at ns m ≡ property
   head_or_later n m rest is later zero e = let same : n ≡ m = cc in subst (λ k. content_at ns k ≡ property) same is
   head_or_later n m rest is later (suc i) e = later i e
@@ -111,83 +64,3 @@ module _ (o : Options) (ns : List Node) (tree : IsTree ns) (sound : SoundTree o 
   -- each element of the object is a property
   pub element_property : (i n : ℕ) → IsElementOf ns c i n → content_at ns n ≡ property
   element_property i n e = all_properties ns (children_at ns c) (row_below ns c) (Shows-row_below ns tree c there) properties_below i n e
-
-  object_asked : asked ns (elements_at ns c) ≡ named ns (elements_at ns c)
-  object_asked = all_asked ns (elements_at ns c) element_property
-
--- the name of one property is less than that of another
-abbrev less : List Node → CstObjectProp → CstObjectProp → Bool
-less ns x y = is_less (written_name ns x.number) (written_name ns y.number)
-
--- an order of places that all name a property is one of the properties' names
-module _ (ns : List Node) (c : ℕ) where
-  abbrev els : List ℕ
-  els = elements_at ns c
-
-  abbrev before : ℕ → ℕ → Bool
-  before = comes_before (less ns) (named ns els) []
-
-  node_is : (i : ℕ) → i < length els → node_in (named ns els) i ≡ Some (property_under (slice_index els i))
-  node_is i h = get_or-map (λ (n : ℕ). Some (property_under n)) els i 0 None h
-
-  same : (i j : ℕ) → i < length els → j < length els → before i j ≡ has_less_name ns c i j
-  same i j h k = ap (λ (x : Option CstObjectProp). option_before (less ns) x (node_in (named ns els) j)) (node_is i h) ∙ ap (option_before (less ns) (Some (property_under (slice_index els i)))) (node_is j k)
-
-  same_ties : (i j : ℕ) → i < length els → j < length els → ties (has_less_name ns c) i j ≡ ties before i j
-  same_ties i j h k = ap (λ b. not b && not (has_less_name ns c j i)) (sym (same i j h k)) ∙ ap (λ b. not (before i j) && not b) (sym (same j i k h))
-
-  below : All (λ i. i < length els) (numbers_in ns c)
-  below k d h =
-      let k_below : k < length els = omega (arith, h, length-range_with_len 0 (length els)) in
-      subst (λ m. m < length els) (sym (get_or-range_with_len 0 (length els) k d k_below)) (omega (arith, k_below))
-
-  alike : (i : ℕ) → i < length els → (xs : List ℕ) → All (λ j. j < length els) xs → filter (ties (has_less_name ns c) i) xs ≡ filter (ties before i) xs
-  alike i h xs all = filter_same (ties (has_less_name ns c) i) (ties before i) xs (λ k l. same_ties i (slice_index xs k) h (all k 0 l))
-
-  by_name : (order : List ℕ) → IsOrderedBy before (length els) order → IsByName ns c order
-  by_name order ordered =
-      let within : All (λ i. i < length els) order = All-permutation (λ i. i < length els) (numbers_in ns c) order ordered.all below in
-      record {
-        all = ordered.all;
-        ascends = λ k d low high. sym (same (get_or order (k + 1) d) (get_or order k d) (within (k + 1) d high) (within k d (omega (arith, high)))) ∙ ordered.ascends k d low high;
-        stable = λ i h. alike i h order within ∙ ordered.stable i ∙ sym (alike i h (numbers_in ns c) below);
-      }
-
-module _ {A F : Type 0} (g : Shared F (Bor (CstRootNode A) × (CstObjectProp × (CstObjectProp × Unit {0}))) Ordering) (compare : F) (old new : CstRootNode A) (x : CstObject) where
-  abbrev HeldIn : CstObjectProp → Type 0
-  HeldIn p = HasNode old (object_prop_node p)
-
-  -- the closure compares names
-  abbrev pub ComparesNames : Type 0
-  ComparesNames = (d : Bor (CstRootNode A)) (p q : CstObjectProp) (r : Ordering) → d.now ≡ old → HeldIn p → HeldIn q → g.post compare (d, (p, (q, tt))) r
-      → r ≡ slice_cmp nat_cmp (written_name (nodes_of d.now) p.number) (written_name (nodes_of d.now) q.number)
-
-  compares : ComparesNames → ComparesBy g compare old HeldIn (less (nodes_of old))
-  compares told = record {
-    answers = λ d p q r at hp hq post. ap is_lt (told d p q r at hp hq post) ∙ ap (λ (w : CstRootNode A). is_less (written_name (nodes_of w) p.number) (written_name (nodes_of w) q.number)) at;
-    order = ranks_by nat_list_cmp_total (λ (p : CstObjectProp). written_name (nodes_of old) p.number);
-  }
-
-  abbrev Sorted : (pinned : CstNode → List (Option CstObjectProp) → List (Option ℕ) → Type 0) → CstObject → Bool → Type 0
-  Sorted pinned y groups = PropertiesSorted old new y pinned groups (IsInItsOrder g compare old HeldIn)
-
-  -- the object has been sorted by names, whatever is pinned
-  pub sorted_so : (pinned : CstNode → List (Option CstObjectProp) → List (Option ℕ) → Type 0) → IsTree (nodes_of old) → ComparesNames → Sorted pinned x false → HasSorted (nodes_of old) (nodes_of new) x.number
-  sorted_so pinned tree told (pins, pinned_so, sorted) =
-      let ns = nodes_of old in
-      let row : List ℕ = elements_at ns x.number in
-      record {
-        order = sorted.order;
-        headers = headers_of pins false;
-        by_name = λ o path sound at is.
-            let ordered : IsOrderedBy (before ns x.number) (length (named ns row)) sorted.order =
-            subst (λ (l : List (Option CstObjectProp)). IsOrderedBy (comes_before (less ns) l []) (length l) sorted.order) (object_asked o ns tree sound path x.number at is) (sorted.required (less ns) (compares told)) in
-            by_name ns x.number sorted.order (subst (λ (n : ℕ). IsOrderedBy (before ns x.number) n sorted.order) (length-map row (λ (n : ℕ). Some (property_under n))) ordered);
-        detached = sorted.placed.detached;
-        step = sorted.placed.step;
-      }
-
-  pub sorted_by_names : (pinned : CstNode → List (Option CstObjectProp) → List (Option ℕ) → Type 0) (y : CstObject) (groups : Bool) → IsTree (nodes_of old) → y ≡ x → groups ≡ false → Sorted pinned y groups → ComparesNames
-      → HasSorted (nodes_of old) (nodes_of new) x.number
-  sorted_by_names pinned y groups tree one off sorted told =
-      sorted_so pinned tree told (subst (λ (b : Bool). Sorted pinned x b) off (subst (λ (w : CstObject). Sorted pinned w groups) one sorted))

@@ -1,8 +1,6 @@
 mod Jobs
 mod Changes
 mod EditTexts
-mod EditValues
-mod EditNames
 mod EditObjects
 mod EditRoutes
 mod EditShown
@@ -13,4 +11,5 @@ mod Values
 mod EditComments
 mod EditEntries
 mod Layouts
-mod Mends
+mod Marks
+mod Ways

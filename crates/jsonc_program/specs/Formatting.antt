@@ -1,5 +1,5 @@
 -- What formatting makes of an input, and of a file's text.
-use Rattle.std.specs.Prelude.{◌≡◌, ◌⊎◌, ◌++◌, ℕ, Bool, List, Option, Some, None, Ok, IsUtf8, chars, drop, take, option_map}
+use Rattle.std.specs.Prelude.{◌≡◌, ◌⊎◌, ℕ, Bool, List, Option, Some, None, Ok, IsUtf8, chars, drop, option_map}
 use Rattle.jsonc_text.specs.Options.{Options}
 use Rattle.jsonc_text.specs.declared.edit.TrailingCommaMode.{TrailingCommaMode}
 use Rattle.jsonc_text.specs.declared.edit.TrailingCommaMode.TheVariants as mode
@@ -21,7 +21,7 @@ use Rattle.jsonc_words.specs.declared.call.LineEnd.{LineEnd}
 use Rattle.jsonc_words.specs.declared.call.LineEnd.TheVariants as end
 use Rattle.jsonc_words.specs.declared.call.TrailingCommas.{TrailingCommas}
 use Rattle.jsonc_words.specs.declared.call.TrailingCommas.TheVariants as commas
-use Rattle.jsonc_program.specs.Mark.{mark_length}
+use Rattle.jsonc_program.specs.Mark.{IsMadeBehind, mark_length}
 use Rattle.jsonc_program.specs.declared.edit.fault.EditFault.{EditFault}
 use Rattle.jsonc_program.specs.declared.layout.Layout.{Layout}
 use Rattle.jsonc_program.specs.edit.Faults.{IsFaultOfInput, IsForMemory}
@@ -89,8 +89,7 @@ module _ (A : Type 0) where
 
   -- a byte order mark stays, and what follows it is laid out
   abbrev pub IsFormattedFile : Options → Layout → List ℕ → List ℕ → Type 0
-  IsFormattedFile o layout old new = (output : List ℕ) × IsLaidOut o layout (drop (mark_length old) old) output
-      × (new ≡ take (mark_length old) old ++ output)
+  IsFormattedFile o layout = IsMadeBehind (IsLaidOut o layout)
 
   -- this is the diff of a file's text and of the one that formatting makes of it
   abbrev pub IsFormatDiff : Options → Layout → (name old diff : List ℕ) → Type 0

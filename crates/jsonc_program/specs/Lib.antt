@@ -5,8 +5,10 @@ pub mod Jobs
 pub mod Lines
 pub mod Mark
 pub mod Mending
+pub mod Operations
 pub mod Place
 pub mod Raw
 pub mod Replacing
 pub mod Values
+pub mod Ways
 pub mod edit

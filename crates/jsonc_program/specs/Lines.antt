@@ -1,12 +1,17 @@
 -- The lines of faults of files.
-use Rattle.std.specs.Prelude.{◌++◌, ℕ, List, codes}
+use Rattle.std.specs.Prelude.{◌++◌, ℕ, List, chars, codes, take}
+use Rattle.std.specs.Str.{IsValidUpTo}
 use Rattle.std.specs.Fmt.{decimal}
 use Rattle.jsonc_text.specs.Faults.{column_of, kind_of, line_of}
 use Rattle.jsonc_text.specs.Messages.{kind_text}
+use Rattle.jsonc_text.specs.Places.{LineColumn}
+use Rattle.jsonc_text.specs.declared.line.LineAndColumn.{LineAndColumn}
 use Rattle.jsonc_text.specs.declared.errors.ParseError.{ParseError}
 use Rattle.jsonc_engine.specs.FaultLines.{cause_text}
 use Rattle.jsonc_engine.specs.declared.fault.Fault.{Fault}
-use Rattle.jsonc_engine.specs.declared.fault.Fault.TheVariants.{Input, NonFinite}
+use Rattle.jsonc_engine.specs.declared.fault.Fault.TheVariants.{Argument, Input, MergePatch, NonFinite, Patch}
+use Rattle.jsonc_parser.specs.declared.patch.merge_text.MergePatchError.TheVariants as merge_patch
+use Rattle.jsonc_parser.specs.declared.patch.reading.PatchError.TheVariants as patch
 
 -- what is told of a file: its name, and this
 abbrev pub line_without : List ℕ → List ℕ → List ℕ
@@ -25,3 +30,14 @@ abbrev pub line_in : {A : Type 0} → List ℕ → Fault A → List ℕ
 line_in name (Input error) = refusal_line name error
 line_in name (NonFinite at) = line_with name at.line at.column (codes "number is not finite")
 line_in name fault = line_without name (cause_text fault)
+
+-- a fault of an argument whose text is that of a file: of JSON or a patch that is refused, the place in it
+abbrev pub line_in_argument : {A : Type 0} → List ℕ → Fault A → List ℕ
+line_in_argument name (Argument error) = refusal_line name error
+line_in_argument name (Patch (patch.Parse error)) = refusal_line name error
+line_in_argument name (MergePatch (merge_patch.Parse error)) = refusal_line name error
+line_in_argument name fault = line_in name fault
+
+-- the place behind the longest front of the bytes that is UTF-8
+abbrev pub IsBehindText : List ℕ → LineAndColumn → Type 0
+IsBehindText bytes at = (n : ℕ) × IsValidUpTo bytes n × LineColumn (chars (take n bytes)) n at.line at.column

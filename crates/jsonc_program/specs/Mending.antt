@@ -1,9 +1,9 @@
 -- What mending makes of an input, and of a file's text.
-use Rattle.std.specs.Prelude.{◌≡◌, ◌⊎◌, ◌++◌, ℕ, List, IsUtf8, drop, take, string_bytes}
+use Rattle.std.specs.Prelude.{◌≡◌, ◌⊎◌, ℕ, List, IsUtf8, string_bytes}
 use Rattle.jsonc_text.specs.Options.{Options}
 use Rattle.jsonc_mends.specs.Mends.{IsMended}
 use Rattle.jsonc_mends.specs.declared.mends.Mends.{Mends}
-use Rattle.jsonc_program.specs.Mark.{mark_length}
+use Rattle.jsonc_program.specs.Mark.{IsMadeBehind}
 use Rattle.jsonc_program.specs.declared.edit.fault.EditFault.{EditFault}
 use Rattle.jsonc_program.specs.edit.Faults.{IsFaultOfInput, IsForMemory}
 
@@ -17,8 +17,7 @@ IsMendedText A o input output = (mends : Mends A) × IsMendOf o input mends × (
 
 -- a byte order mark stays, and what follows it is mended
 abbrev pub IsMendedFile : Type 0 → Options → List ℕ → List ℕ → Type 0
-IsMendedFile A o old new = (output : List ℕ) × IsMendedText A o (drop (mark_length old) old) output
-    × (new ≡ take (mark_length old) old ++ output)
+IsMendedFile A o = IsMadeBehind (IsMendedText A o)
 
 -- an input is refused where it is not UTF-8, or memory is lacking
 abbrev pub IsUnmended : {A : Type 0} → Options → List ℕ → EditFault A → Type 0

@@ -2,7 +2,8 @@
 ghost use Rattle.std.specs.Prelude.{◌≡◌, string_bytes, IfErr, IfOk, IsTrue, OnOk};
 ghost use Rattle.jsonc_text.specs.OptionsOf.{parse_options};
 ghost use Rattle.jsonc_engine.specs.Input.{IsInputOf, IsRefusalOf};
-ghost use Rattle.jsonc_program.specs.Arguments.{argument_of, is_string, takes_json};
+ghost use Rattle.std.specs.Str.{trim_start};
+ghost use Rattle.jsonc_program.specs.Arguments.{argument_of, begins_otherwise, is_string, takes_json};
 
 use jsonc_layout::input::spelling::spell;
 use jsonc_parser::errors::ParseError;
@@ -60,8 +61,11 @@ pub fn check_argument(
     check_document(alloc, text, options)
 }
 
-/// Whether a text that is no JSON may be meant as a string: it does not begin as an object, an array or a string does.
-pub fn lacks_quotes(text: &str) -> bool {
+/// Whether a text that is no JSON may be meant as a string: blanks aside, it does not begin as an object, an array or a
+/// string does.
+pub fn lacks_quotes(text: &str) -> bool
+    ensures { result ≡ begins_otherwise (trim_start text.now) }
+{
     match text.trim_start().as_bytes().first() {
         None | Some(b'{' | b'[' | b'"' | b'\'') => false,
         Some(_) => true,

@@ -1,5 +1,5 @@
 //! A command as a change of a file's text.
-use crate::mark::{joined, split_mark};
+use crate::mark::{split_mark, with_mark};
 use jsonc_engine::command::Command;
 use jsonc_engine::engine::run_with;
 use jsonc_engine::fault::Fault;
@@ -29,17 +29,12 @@ impl Change<Global> for Replacing<'_> {
     ghost refuses = { λ r old fault. IsRefused (parse_options r.options) (request_of r.command) old fault };
 
     fn new_text(&mut self, old: &[u8]) -> Result<Option<Vec<u8>>, Fault<Global>> {
-        let (mark, rest) = split_mark(old);
+        let (_, rest) = split_mark(old);
         match run_with(self.alloc, &self.options, self.command, rest) {
-            Ok(Some(text)) => {
-                if text.as_str().as_bytes() == rest {
-                    return Ok(None);
-                }
-                match joined(self.alloc, mark, text.as_str().as_bytes()) {
-                    Ok(new) => Ok(Some(new)),
-                    Err(error) => Err(Fault::from(error)),
-                }
-            }
+            Ok(Some(text)) => match with_mark(self.alloc, old, text.as_str().as_bytes()) {
+                Ok(new) => Ok(new),
+                Err(error) => Err(Fault::from(error)),
+            },
             Ok(None) => Ok(None),
             Err(fault) => Err(fault),
         }

@@ -47,7 +47,9 @@ pub(crate) fn document_of<A: Allocator + Copy>(
 }
 
 /// The text of a document.
-fn text_of<A: Allocator + Copy>(document: &CstRootNode<A>) -> Result<String<A>, EditFault<A>>
+pub(crate) fn text_of<A: Allocator + Copy>(
+    document: &CstRootNode<A>,
+) -> Result<String<A>, EditFault<A>>
     ensures printed { IfOk result (λ text. string_bytes text ≡ printed_of document.now) }
     ensures memory { IfErr result IsForMemory }
 {

@@ -7,9 +7,9 @@ ghost use Rattle.jsonc_program.specs.Formatting.{AreCommasOf, IsFileNotLaidOut, 
 ghost use Rattle.jsonc_program.specs.Mark.{mark_length};
 ghost use Rattle.jsonc_program.specs.edit.Faults.{IsFaultOfInput, IsForMemory};
 
-use crate::edit::EditFault;
+use crate::edit::{EditFault, document_of, text_of};
 use crate::layout::Layout;
-use crate::mark::{joined, mark_text, split_mark};
+use crate::mark::{mark_text, split_mark, with_mark};
 use jsonc_diff::unified_diff;
 use jsonc_engine::fault::Fault;
 use jsonc_files::Change;
@@ -61,14 +61,14 @@ fn commas_set<A: Allocator + Copy>(
     ensures set { IfOk result (λ output. AreCommasOf A (parse_options options.now) mode text.now (string_bytes output)) }
     ensures refused { IfErr result (λ fault. IsFaultOfInput (parse_options options.now) text.now fault ⊎ IsForMemory fault) }
 {
-    let mut document = match CstRootNode::parse(alloc, text, options) {
+    let mut document = match document_of(alloc, options, text.as_bytes()) {
         Ok(document) => document,
-        Err(error) => return Err(EditFault::Engine(Fault::Input(error))),
+        Err(fault) => return Err(fault),
     };
     set_commas(&mut document, mode)?;
-    match document.text() {
+    match text_of(&document) {
         Ok(output) => Ok(output),
-        Err(error) => Err(EditFault::from(error)),
+        Err(fault) => Err(fault),
     }
 }
 
@@ -182,16 +182,13 @@ impl Change<Global> for Formatting {
     ghost refuses = { λ f old fault. IsFileNotLaidOut Global (parse_options f.options) f.layout old fault };
 
     fn new_text(&mut self, old: &[u8]) -> Result<Option<Vec<u8>>, EditFault<Global>> {
-        let (mark, rest) = split_mark(old);
+        let (_, rest) = split_mark(old);
         let text = match laid_out(self.alloc, &self.options, &self.layout, rest) {
             Ok(text) => text,
             Err(fault) => return Err(fault),
         };
-        if text.as_str().as_bytes() == rest {
-            return Ok(None);
-        }
-        match joined(self.alloc, mark, text.as_str().as_bytes()) {
-            Ok(new) => Ok(Some(new)),
+        match with_mark(self.alloc, old, text.as_str().as_bytes()) {
+            Ok(new) => Ok(new),
             Err(error) => Err(EditFault::from(error)),
         }
     }

@@ -1,8 +1,9 @@
 //! The lines of faults: `FILE:LINE:COLUMN: ` before the cause, as compilers write them, or `FILE: ` where there is no
 //! place.
-ghost use Rattle.std.specs.Prelude.{◌≡◌, ◌++◌, ℕ, List, codes, string_bytes, IfOk};
+ghost use Rattle.std.specs.Prelude.{◌≡◌, ◌++◌, ℕ, List, codes, string_bytes, IfOk, IsUtf8, MatchOption};
 ghost use Rattle.jsonc_engine.specs.FaultLines.{front_of};
-ghost use Rattle.jsonc_program.specs.Lines.{line_in as line_of_fault, line_with, line_without, refusal_line};
+ghost use Rattle.jsonc_program.specs.Lines.{line_in as line_of_fault, line_in_argument as line_of_argument};
+ghost use Rattle.jsonc_program.specs.Lines.{IsBehindText, line_with, line_without, refusal_line};
 
 use jsonc_engine::fault::Fault;
 use jsonc_parser::errors::ParseError;
@@ -80,7 +81,10 @@ pub fn line_in_argument(
     alloc: Global,
     name: &str,
     fault: &Fault<Global>,
-) -> Result<String, AllocError> {
+) -> Result<String, AllocError>
+    ensures { front_of fault.now ≡ codes "jsonc: "
+        → IfOk result (λ line. string_bytes line ≡ line_of_argument name.now fault.now) }
+{
     match fault {
         Fault::Argument(error)
         | Fault::Patch(PatchError::Parse(error))
@@ -89,8 +93,11 @@ pub fn line_in_argument(
     }
 }
 
-/// Where bytes are not UTF-8, if they are not.
-pub fn place_of_other_bytes(bytes: &[u8]) -> Option<LineAndColumn> {
+/// Where bytes are not UTF-8, if they are not: behind the longest text that they begin with. Line and column are counted
+/// from 1, the column in characters.
+pub fn place_of_other_bytes(bytes: &[u8]) -> Option<LineAndColumn>
+    ensures { MatchOption result (IsUtf8 bytes.now) (IsBehindText bytes.now) }
+{
     let Err(error) = str::from_utf8(bytes) else {
         return None;
     };

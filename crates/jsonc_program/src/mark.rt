@@ -1,6 +1,6 @@
 //! The byte order mark of UTF-8, which the program passes over and keeps.
-ghost use Rattle.std.specs.Prelude.{◌≡◌, ◌++◌, IfOk, drop, take};
-ghost use Rattle.jsonc_program.specs.Mark.{mark_length};
+ghost use Rattle.std.specs.Prelude.{◌≡◌, ◌++◌, IfOk, MatchOption, drop, take};
+ghost use Rattle.jsonc_program.specs.Mark.{mark_length, marked};
 
 use std::alloc::{AllocError, Global};
 
@@ -34,11 +34,31 @@ pub(crate) fn mark_text(bytes: &[u8]) -> &'static str
 }
 
 /// The two parts as one.
-pub(crate) fn joined(alloc: Global, first: &[u8], second: &[u8]) -> Result<Vec<u8>, AllocError>
+fn joined(alloc: Global, first: &[u8], second: &[u8]) -> Result<Vec<u8>, AllocError>
     ensures { IfOk result (λ bytes. bytes.items ≡ first.now ++ second.now) }
 {
     let mut bytes = Vec::new(alloc);
     bytes.extend_from_slice(first)?;
     bytes.extend_from_slice(second)?;
     Ok(bytes)
+}
+
+/// The new text of a file: the byte order mark of the old one, and this text behind it. It is none where that is the old
+/// one.
+pub(crate) fn with_mark(
+    alloc: Global,
+    old: &[u8],
+    text: &[u8],
+) -> Result<Option<Vec<u8>>, AllocError>
+    ensures { IfOk result (λ new. MatchOption new (old.now ≡ marked old.now text.now)
+        (λ bytes. bytes.items ≡ marked old.now text.now)) }
+{
+    let (mark, rest) = split_mark(old);
+    if text == rest {
+        return Ok(None);
+    }
+    match joined(alloc, mark, text) {
+        Ok(new) => Ok(Some(new)),
+        Err(error) => Err(error),
+    }
 }

@@ -4,7 +4,7 @@ ghost use Rattle.jsonc_text.specs.OptionsOf.{parse_options};
 ghost use Rattle.jsonc_program.specs.Mending.{IsMendOf, IsMendedText, IsUnmended};
 
 use crate::edit::EditFault;
-use crate::mark::{joined, split_mark};
+use crate::mark::{split_mark, with_mark};
 use jsonc_engine::fault::Fault;
 use jsonc_files::Change;
 use jsonc_mends::{Mends, mend};
@@ -54,19 +54,16 @@ impl Change<Global> for Mending {
     ghost refuses = { λ m old fault. IsUnmended (parse_options m.options) (drop (mark_length old) old) fault };
 
     fn new_text(&mut self, old: &[u8]) -> Result<Option<Vec<u8>>, EditFault<Global>> {
-        let (mark, rest) = split_mark(old);
+        let (_, rest) = split_mark(old);
         let mends = match mends_of(self.alloc, &self.options, rest) {
             Ok(mends) => mends,
             Err(fault) => return Err(fault),
         };
-        if mends.text().as_bytes() == rest {
-            return Ok(None);
-        }
-        let new = match joined(self.alloc, mark, mends.text().as_bytes()) {
+        let new = match with_mark(self.alloc, old, mends.text().as_bytes()) {
             Ok(new) => new,
             Err(error) => return Err(EditFault::from(error)),
         };
         self.found = Some(mends);
-        Ok(Some(new))
+        Ok(new)
     }
 }

@@ -1,4 +1,8 @@
 //! What is told of an operation of a patch that was not made.
+ghost use Rattle.std.specs.Prelude.{◌≡◌, ◌++◌, ℕ, List, IfOk, IfSome, codes, option_map, string_bytes};
+ghost use Rattle.jsonc_text.specs.OptionsOf.{parse_options};
+ghost use Rattle.jsonc_program.specs.Operations.{IsShown, IsToldOf, IsToldOfPatch, operation_line, operation_name};
+
 use jsonc_engine::command::{Command, Place};
 use jsonc_engine::engine::run_with;
 use jsonc_engine::fault::Fault;
@@ -45,24 +49,45 @@ fn shown_pointer(alloc: Global, pointer: &Pointer<Global>) -> Result<String, All
     shown(alloc, text.as_str())
 }
 
-/// An operation with its pointers, as `move "/a" to "/b"`.
-fn shown_operation(alloc: Global, operation: &Operation<Global>) -> Result<String, AllocError> {
-    let (name, first, second) = match operation {
-        Operation::Add(to, _) => ("add", to, None),
-        Operation::Remove(at) => ("remove", at, None),
-        Operation::Replace(at, _) => ("replace", at, None),
-        Operation::Move(from, to) => ("move", from, Some(to)),
-        Operation::Copy(from, to) => ("copy", from, Some(to)),
-        Operation::Test(at, _) => ("test", at, None),
+/// The name of an operation.
+fn name_of(operation: &Operation<Global>) -> &'static str
+    ensures { result.now ≡ operation_name operation.now }
+{
+    match operation {
+        Operation::Add(_, _) => "add",
+        Operation::Remove(_) => "remove",
+        Operation::Replace(_, _) => "replace",
+        Operation::Move(_, _) => "move",
+        Operation::Copy(_, _) => "copy",
+        Operation::Test(_, _) => "test",
+    }
+}
+
+/// The pointers of an operation as they are shown, as `"/a" to "/b"`.
+fn shown_pointers(alloc: Global, operation: &Operation<Global>) -> Result<String, AllocError> {
+    let (first, second) = match operation {
+        Operation::Add(at, _) | Operation::Replace(at, _) | Operation::Test(at, _) => (at, None),
+        Operation::Remove(at) => (at, None),
+        Operation::Move(from, to) | Operation::Copy(from, to) => (from, Some(to)),
     };
     let first = shown_pointer(alloc, first)?;
     match second {
         Some(second) => {
             let second = shown_pointer(alloc, second)?;
-            format!(in alloc; "{name} \"{first}\" to \"{second}\"")
+            format!(in alloc; "\"{first}\" to \"{second}\"")
         }
-        None => format!(in alloc; "{name} \"{first}\""),
+        None => format!(in alloc; "\"{first}\""),
     }
+}
+
+/// An operation with its pointers, as `move "/a" to "/b"`.
+fn shown_operation(alloc: Global, operation: &Operation<Global>) -> Result<String, AllocError>
+    ensures { IfOk result (λ shown. (pointers : List ℕ)
+        × (string_bytes shown ≡ operation_name operation.now ++ (codes " " ++ pointers))) }
+{
+    let pointers = shown_pointers(alloc, operation)?;
+    let name = name_of(operation);
+    format!(in alloc; "{name} {pointers}")
 }
 
 /// The byte behind the operation of this number, in the text of a patch.
@@ -145,7 +170,10 @@ fn described(
     patch: &str,
     number: usize,
     input: &[u8],
-) -> Result<Option<Description>, AllocError> {
+) -> Result<Option<Description>, AllocError>
+    ensures { IfOk result (λ found. IfSome found
+        (λ d. IsShown (parse_options options.now) patch.now number (string_bytes d.operation))) }
+{
     let Ok(read) = Patch::from_json(alloc, patch, options) else {
         return Ok(None);
     };
@@ -160,8 +188,24 @@ fn described(
     Ok(Some(Description { operation, value }))
 }
 
-/// What is told of an operation of a patch that was not made for this cause: its number, its name and its pointers, the
-/// cause, and of a test the value that it found.
+/// The line of an operation: its number, its name and its pointers, the cause, and of a test the value that it found.
+fn operation_line(
+    alloc: Global,
+    number: usize,
+    description: &Description,
+    cause: &str,
+) -> Result<String, AllocError>
+    ensures { IfOk result (λ line. string_bytes line ≡ operation_line number (string_bytes description.now.operation) cause.now
+        (option_map string_bytes description.now.value)) }
+{
+    let operation = description.operation.as_str();
+    match &description.value {
+        Some(value) => format!(in alloc; "Operation {number}: {operation}: {cause}: {value}"),
+        None => format!(in alloc; "Operation {number}: {operation}: {cause}"),
+    }
+}
+
+/// What is told of an operation of a patch that was not made for this cause.
 fn told_of(
     alloc: Global,
     options: &ParseOptions,
@@ -169,15 +213,14 @@ fn told_of(
     input: &[u8],
     number: usize,
     cause: &str,
-) -> Result<Option<String>, AllocError> {
+) -> Result<Option<String>, AllocError>
+    ensures { IfOk result (λ told. IfSome told
+        (λ line. IsToldOf (parse_options options.now) patch.now number cause.now (string_bytes line))) }
+{
     let Some(description) = described(alloc, options, patch, number, input)? else {
         return Ok(None);
     };
-    let operation = description.operation.as_str();
-    let line = match &description.value {
-        Some(value) => format!(in alloc; "Operation {number}: {operation}: {cause}: {value}")?,
-        None => format!(in alloc; "Operation {number}: {operation}: {cause}")?,
-    };
+    let line = operation_line(alloc, number, &description, cause)?;
     Ok(Some(line))
 }
 
@@ -188,7 +231,10 @@ pub fn told_of_patch(
     patch: &str,
     input: &[u8],
     fault: &Fault<Global>,
-) -> Result<Option<String>, AllocError> {
+) -> Result<Option<String>, AllocError>
+    ensures { IfOk result (λ told. IfSome told
+        (λ line. IsToldOfPatch (parse_options options.now) patch.now fault.now (string_bytes line))) }
+{
     match fault {
         Fault::Operation(operation) => {
             let cause = format!(in alloc; "{}", operation.cause)?;

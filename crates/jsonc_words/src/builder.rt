@@ -50,7 +50,7 @@ fn usage<'a>(name: CommandName) -> &'a str {
         }
         CommandName::Rename => "jsonc rename [OPTIONS] <PLACE> <NAME> [FILE]...",
         CommandName::Comment => {
-            "jsonc comment [OPTIONS] <PLACE> <TEXT> [FILE]...\n       jsonc comment -f <FILE> [OPTIONS] <PLACE> [FILE]..."
+            "jsonc comment [OPTIONS] <PLACE> <TEXT> [FILE]...\n       jsonc comment [OPTIONS] -f <FILE> <PLACE> [FILE]..."
         }
         CommandName::Patch => {
             "jsonc patch [OPTIONS] <PATCH> [FILE]...\n       jsonc patch [OPTIONS] -f <FILE> [FILE]..."

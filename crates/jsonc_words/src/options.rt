@@ -53,7 +53,7 @@ pub(crate) fn source<'a>(alloc: Global) -> Arg<'a> {
         .short('f')
         .long("from-file")
         .value_name("FILE")
-        .help("Reads the last argument from FILE, and all words in its place are FILEs")
+        .help("Reads the last argument from FILE, or for - from standard input, and from no word")
 }
 
 /// The option `--max-bytes` of `patch`.
@@ -84,7 +84,7 @@ pub(crate) fn with_sort_options<'a>(
         .arg(flag(
             alloc,
             "keep-headers",
-            "Keeps comments at the head of the object",
+            "Keeps comments in their place that end with a blank line",
         ))
 }
 

@@ -27,11 +27,15 @@ impl Misuse {
     /// What the user is told.
     pub(crate) fn message(self) -> &'static str {
         match self {
-            Misuse::NothingToChange => "--in-place is for commands that write the document",
+            Misuse::NothingToChange => {
+                "--in-place is for commands that write the document, and not for --check or --diff"
+            },
             Misuse::NoFileInPlace => "--in-place needs a FILE",
             Misuse::StandardInPlace => "--in-place cannot change standard input, the FILE '-'",
-            Misuse::SeveralFiles => "several FILEs need --in-place",
-            Misuse::NoFileBeside => "with '-f -' a FILE has to be named",
+            Misuse::SeveralFiles =>
+                "several FILEs need --in-place: one document alone is written to standard output",
+            Misuse::NoFileBeside =>
+                "with '-f -' a FILE has to be named, since standard input has the argument",
             Misuse::StandardTwice => "standard input cannot be read by '-f -' and as the FILE '-'",
             Misuse::CommasForbidden => "--dialect json has no trailing commas",
         }

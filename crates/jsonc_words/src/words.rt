@@ -36,10 +36,22 @@ fn read_command<'a>(
     }
 }
 
+/// Whether a word is an option of commands.
+fn is_option_of_commands(word: &str) -> bool {
+    matches!(word, "-i" | "--in-place" | "-f" | "--from-file") || word.starts_with("--dialect")
+}
+
 /// What the program prints for words of which the first names no command: its help or version, or the word that was
 /// perhaps meant.
 fn reply_to<'a>(alloc: Global, words: &'a [&'a str]) -> Result<Reply, Reply> {
     let mut program = program(alloc)?;
+    if let [_, word, ..] = words {
+        if is_option_of_commands(word) {
+            let told = "the command is the first word, and its options stand behind it";
+            let error = program.error(ErrorKind::MissingSubcommand, told)?;
+            return Ok(Reply::from(error));
+        }
+    }
     let _matches = program.try_get_matches_from_mut(words)?;
     let error = program.error(ErrorKind::MissingSubcommand, "a command is missing")?;
     Ok(Reply::from(error))

@@ -2,7 +2,6 @@
 use Rattle.std.specs.Prelude.{◌≡◌, ◌≢◌, ◌⊎◌, ◌<◌, ◌++◌, ◌∷◌, ℕ, length, Bool, true, false, List, [], Option, Some, None, IsUtf8, chars, string_bytes}
 use Rattle.jsonc_text.specs.Documents.{Document}
 use Rattle.jsonc_text.specs.Gaps.{IsComment}
-use Rattle.jsonc_text.specs.Grammar.{IsDocument}
 use Rattle.jsonc_text.specs.Options.{Options, all_on}
 use Rattle.jsonc_text.specs.Plain.{Items, Members, Plain, array, object}
 use Rattle.jsonc_text.specs.declared.edit.EditError.{EditError}
@@ -19,14 +18,14 @@ use Rattle.jsonc_run.specs.Edits as plain
 use Rattle.jsonc_run.specs.Named.{HasPropertyAt}
 use Rattle.jsonc_parser.specs.paths.Settings.{IsNoObject}
 use Rattle.jsonc_parser.specs.patch.Found.{IsOfShown}
-use Rattle.jsonc_parser.specs.patch.Pointer.{IsPointerFault}
 use Rattle.jsonc_insert.specs.elements.Laws.{item_count}
 use Rattle.jsonc_parser.specs.patch.References.{IsIndex}
 use Rattle.jsonc_parser.specs.patch.Putting.{IsAmbiguousAt, IsOtherKind, IsPutBy, LeadsAlong}
 use Rattle.jsonc_parser.specs.declared.patch.putting.PutError.{PutError}
 use Rattle.jsonc_parser.specs.declared.patch.putting.PutError.TheVariants as put_error
-use Rattle.jsonc_engine.specs.Argument.{AreNoNames}
-use Rattle.jsonc_engine.specs.Input.{IsRefusal, IsRefusalOf}
+use Rattle.jsonc_engine.specs.Argument as argument
+use Rattle.jsonc_engine.specs.Command.{find}
+use Rattle.jsonc_engine.specs.Input.{IsRefusalOf}
 use Rattle.jsonc_engine.specs.Patched.{OfDocument}
 use Rattle.jsonc_engine.specs.declared.command.Place.{Place}
 use Rattle.jsonc_engine.specs.declared.command.Place.TheVariants.{Names, Pointer}
@@ -44,10 +43,8 @@ use Rattle.jsonc_program.specs.edit.Words.{IsAskedBy}
 
 -- what a fault may say of a place: its pointer is none, or its JSON text is no document or lists no names
 abbrev pub IsFaultOfPlace : {A : Type 0} → Place → EditFault A → Type 0
-IsFaultOfPlace (Pointer text) (Engine (told.Pointer error)) = IsPointerFault (chars text.now) error
-IsFaultOfPlace (Names text) (Engine (told.Path error)) = IsRefusal text.now error
-IsFaultOfPlace (Names text) (Engine told.NotNames) = (w : Option Plain) × IsDocument all_on (chars text.now) w × AreNoNames w
-IsFaultOfPlace place (Engine (told.Edit OutOfMemory)) = Unit {0}
+IsFaultOfPlace (Pointer text) (Engine fault) = argument.IsFaultOfText all_on (find text.now) fault
+IsFaultOfPlace (Names text) (Engine fault) = argument.IsFaultOfPath text.now fault
 IsFaultOfPlace place fault = ⊥
 
 abbrev pub IsFaultOfTarget : {A : Type 0} → Target → EditFault A → Type 0
@@ -60,8 +57,7 @@ IsFaultOfPlaceIf (Some place) fault = IsFaultOfPlace place fault
 
 -- and of a JSON text: it is no document of the options, or has no value
 abbrev pub IsFaultOfJson : {A : Type 0} → Options → List ℕ → EditFault A → Type 0
-IsFaultOfJson o json (Engine (told.Argument error)) = IsRefusalOf o json error
-IsFaultOfJson o json (Engine told.NoValue) = IsDocument o (chars json) None
+IsFaultOfJson o json (Engine fault) = argument.IsFaultOfJson o json fault
 IsFaultOfJson o json fault = ⊥
 
 -- memory is lacking
@@ -73,8 +69,8 @@ abbrev pub IsFaultOfWords : {A : Type 0} → Options → Edit → EditFault A �
 IsFaultOfWords o (edits.Put pointer json) fault = IsFaultOfPlace (Pointer pointer) fault ⊎ IsFaultOfJson o json.now fault
 IsFaultOfWords o (edits.Replace target json) fault = IsFaultOfTarget target fault ⊎ IsFaultOfJson o json.now fault
 IsFaultOfWords o (edits.Remove target with_comments must_exist) fault = IsFaultOfTarget target fault
-IsFaultOfWords o (edits.Rename place name) fault = IsFaultOfPlace place fault
-IsFaultOfWords o (edits.Comment place text is_after) fault = IsFaultOfPlace place fault ⊎ ((fault ≡ NoComments) × (o.comments ≡ false))
+IsFaultOfWords o (edits.Rename place name) fault = IsFaultOfPlace place fault ⊎ IsForMemory fault
+IsFaultOfWords o (edits.Comment place text is_after) fault = IsFaultOfPlace place fault ⊎ (((fault ≡ NoComments) × (o.comments ≡ false)) ⊎ IsForMemory fault)
 IsFaultOfWords o (edits.Sort at is_recursive keeps_headers) fault = IsFaultOfPlaceIf at fault
 
 -- and of the input
@@ -141,9 +137,13 @@ abbrev pub LacksProperty : Asked → Document → Type 0
 LacksProperty (rename route name) d = LeadsWhere route d (λ path. ¬ (HasPropertyAt path d.value))
 LacksProperty asked d = ⊥
 
+-- the route leads to a value of another kind than an object
+abbrev pub LeadsToNoObject : Route → Option Plain → Type 0
+LeadsToNoObject route w = (path : List ℕ) × (v : Plain) × LeadsBy route w path v × IsNoObject v
+
 -- it is no object
 abbrev pub LacksProperties : Asked → Option Plain → Type 0
-LacksProperties (sort route false keeps_headers) w = (path : List ℕ) × (v : Plain) × LeadsBy route w path v × IsNoObject v
+LacksProperties (sort route false keeps_headers) w = LeadsToNoObject route w
 LacksProperties asked w = ⊥
 
 -- why a value is not put

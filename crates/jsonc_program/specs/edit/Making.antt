@@ -18,7 +18,7 @@ use Rattle.jsonc_parser.specs.patch.Found.{IsOfShown}
 use Rattle.jsonc_parser.specs.patch.PutCalls.{IsPutIn}
 use Rattle.jsonc_program.specs.edit.Asked.{Asked, MayBeWritten, comment, put, remove, rename, replace, sort}
 use Rattle.jsonc_program.specs.edit.Routes.{LeadsNowhere, LeadsWhere, Route}
-use Rattle.jsonc_program.specs.edit.Sorting.{SortsAt, SortsObjects}
+use Rattle.jsonc_program.specs.edit.Sorting.{SortsAt, SortsInside}
 
 -- by one operation
 abbrev pub MadeBy : Operation → Document → Document → Type 0
@@ -58,8 +58,8 @@ Makes (replace route v) d e = LeadsWhere route d (λ path. MadeBy (texts.replace
 Makes (remove route in_object with_comments must_exist) d e = LeadsWhere route d (λ path. Leaves with_comments path d e) ⊎ MayStay route must_exist d e
 Makes (rename route name) d e = LeadsWhere route d (λ path. MadeBy (texts.rename_property path name) d e)
 Makes (comment route place text) d e = LeadsWhere route d (λ path. MadeBy (texts.insert_comment path place text) d e)
-Makes (sort route false keeps_headers) d e = LeadsWhere route d (λ path. SortsAt path d e)
-Makes (sort route true keeps_headers) d e = LeadsWhere route d (λ path. SortsObjects d e)
+Makes (sort route false keeps_headers) d e = LeadsWhere route d (λ path. SortsAt keeps_headers path d e)
+Makes (sort route true keeps_headers) d e = LeadsWhere route d (λ path. SortsInside keeps_headers path d e)
 
 -- it is made of the document that the old tree shows, the options stay, and a document that is within the depth stays so
 pub record IsMadeIn (asked : Asked) (d e : Document) : Type 0 where

@@ -1,51 +1,63 @@
 -- What a sort makes of a document.
-use Rattle.std.specs.Prelude.{◌≡◌, ℕ, List, [], ◌∷◌}
-use Rattle.jsonc_text.specs.Options.{Options}
+use Rattle.std.specs.Prelude.{◌≡◌, ℕ, Bool, false, List, [], ◌∷◌, filter}
+use Rattle.std.specs.List.{All}
 use Rattle.jsonc_text.specs.Documents.{Document, IsOne}
 use Rattle.jsonc_tree.specs.Content.{object}
+use Rattle.jsonc_tree.specs.Order.{in_order}
 use Rattle.jsonc_tree.specs.OrderedTree.{ordered_tree}
-use Rattle.jsonc_tree.specs.Tree.{Node, content_at}
+use Rattle.jsonc_tree.specs.Tree.{Node, content_at, IsOver}
 use Rattle.jsonc_edit.specs.Paths.{IsAt}
+use Rattle.jsonc_edit.specs.set.Kinds.{is_object}
+use Rattle.jsonc_run.specs.promise.Within.{StaysWithin}
 use Rattle.jsonc_run.specs.texts.Edits.{Run, rearrange}
 use Rattle.jsonc_cst.specs.declared.cst.CstRootNode.{CstRootNode}
-use Rattle.jsonc_cst.specs.Document.{tree_of}
-use Rattle.jsonc_cst.specs.typed.Edits.{KeepsDocumentOf}
-use Rattle.jsonc_run.specs.Edits as edits
-use Rattle.jsonc_run.specs.promise.Steps.{IsStep}
-use Rattle.jsonc_run.specs.promise.Within.{StaysWithin}
-use Rattle.jsonc_sort.specs.Sorting.{Headers}
+use Rattle.jsonc_cst.specs.Document.{nodes_of, tree_of}
+use Rattle.jsonc_sort.specs.Rearranged.{Rearranged, headers_of}
 use Rattle.jsonc_sound.specs.Documents.{Shows}
-use Rattle.jsonc_sound.specs.SoundTrees.{SoundTree}
 use Rattle.jsonc_parser.specs.patch.Found.{IsOfShown}
-use Rattle.jsonc_engine.specs.Sorting.{IsByName}
+use Rattle.jsonc_engine.specs.Sorting.{IsByName, pins_at}
 
--- The properties of the object at the path come in the order of their names as they are written, without quotes, byte by byte, each with what goes with it; those of one
--- name stay in their order. That is one operation.
-pub record SortsAt (path : List ℕ) (d e : Document) : Type 0 where
-  pub nodes : List Node
-  pub shown : Shows d (ordered_tree nodes 0)
-  pub object_node : ℕ
-  pub at : IsAt nodes path object_node
-  pub is_object : content_at nodes object_node ≡ object
+-- The object n, at the path in the document d of the old nodes, is sorted: its properties are in the order of their names as they are written, without quotes, byte by
+-- byte, each with what goes with it, and those of one name stay in their order. Comments above the last blank line before a property stay where they are, where headers
+-- are kept. That is one operation, and the new nodes show e.
+pub record SortsObject (keeps_headers : Bool) (n : ℕ) (path : List ℕ) (old : List Node) (d : Document) (new : List Node) (e : Document) : Type 0 where
+  pub at : IsAt old path n
+  pub is_object : content_at old n ≡ object
   pub order : List ℕ
-  pub by_name : IsByName nodes object_node order
+  pub by_name : IsByName old n order
+  pub moved : Rearranged old new n (headers_of (pins_at keeps_headers old n) false) order
+  pub shown : Shows e (ordered_tree new 0)
   pub sorted : Run d (rearrange path order ∷ []) e
 
--- so it is of several objects, one after another
-pub data SortsObjects : Document → Document → Type 0 where
-  none_left : {d : Document} → IsOne d → SortsObjects d d
-  one_sorted : {d m e : Document} (path : List ℕ) → SortsAt path d m → SortsObjects m e → SortsObjects d e
+-- so the object at the path
+pub record SortsAt (keeps_headers : Bool) (path : List ℕ) (d e : Document) : Type 0 where
+  pub old : List Node
+  pub new : List Node
+  pub shown : Shows d (ordered_tree old 0)
+  pub n : ℕ
+  pub sorted : SortsObject keeps_headers n path old d new e
 
--- In nodes: the properties of the object c are in the order of their names, where it stands in a sound document. The call is one step; where it stands in none, nothing of the
--- document has changed.
-pub record HasSorted (old new : List Node) (c : ℕ) : Type 0 where
-  pub order : List ℕ
-  pub headers : Headers
-  pub by_name : (o : Options) (path : List ℕ) → SoundTree o (ordered_tree old 0) → IsAt old path c → content_at old c ≡ object → IsByName old c order
-  pub detached : KeepsDocumentOf old new c
-  pub step : IsStep IsAt (λ path. edits.rearrange path headers order) old new c
+-- so each object of these numbers, one after another, wherever it then is
+pub data SortsEach (keeps_headers : Bool) : List ℕ → List Node → Document → List Node → Document → Type 0 where
+  none_left : {nodes : List Node} {d : Document} → IsOne d → SortsEach keeps_headers [] nodes d nodes d
+  one_sorted : {n : ℕ} {rest : List ℕ} {old mid new : List Node} {d m e : Document} (path : List ℕ) → SortsObject keeps_headers n path old d mid m
+      → SortsEach keeps_headers rest mid m new e → SortsEach keeps_headers (n ∷ rest) old d new e
+
+-- the objects among a node and those below it, an object before those in it
+abbrev pub objects_in : List Node → ℕ → List ℕ
+objects_in ns n = filter (λ m. is_object (content_at ns m)) (in_order ns n)
+
+-- each object in the value at the path is sorted, and the value itself if it is one, an object before those in it
+pub record SortsInside (keeps_headers : Bool) (path : List ℕ) (d e : Document) : Type 0 where
+  pub old : List Node
+  pub new : List Node
+  pub shown : Shows d (ordered_tree old 0)
+  pub n : ℕ
+  pub at : IsAt old path n
+  pub sorted : SortsEach keeps_headers (objects_in old n) old d new e
 
 module _ {A : Type 0} where
-  -- objects have been sorted in the document that the old one shows
-  abbrev pub SortsWhatShown : CstRootNode A → CstRootNode A → Type 0
-  SortsWhatShown old new = IsOfShown old (λ d. (e : Document) × Shows e (tree_of new) × (e.options ≡ d.options) × StaysWithin d e × SortsObjects d e)
+  -- where these objects stand in the document that the old one shows, each of them has been sorted
+  abbrev pub SortsWhatShown : Bool → List ℕ → CstRootNode A → CstRootNode A → Type 0
+  SortsWhatShown keeps_headers ns old new = All (IsOver (nodes_of old) 0) ns
+      → IsOfShown old (λ d. (e : Document) × Shows e (tree_of new) × (e.options ≡ d.options) × StaysWithin d e × SortsEach keeps_headers ns (nodes_of old) d (nodes_of new) e)

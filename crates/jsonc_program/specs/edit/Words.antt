@@ -1,14 +1,12 @@
 -- What the words of an edit ask for.
 use Rattle.std.specs.Prelude.{◌≡◌, ◌≢◌, ◌⊎◌, ◌++◌, ℕ, Bool, true, false, not, List, [], ◌∷◌, Option, Some, None, IsTrue, chars, codes}
 use Rattle.std.specs.List.{All}
-use Rattle.jsonc_text.specs.Grammar.{IsDocument}
 use Rattle.jsonc_text.specs.Options.{Options}
-use Rattle.jsonc_text.specs.Plain.{Plain, collapse}
+use Rattle.jsonc_text.specs.Plain.{Plain}
 use Rattle.jsonc_text.specs.Text.{is_line_end}
 use Rattle.jsonc_text.specs.declared.edit.Place as sides
 use Rattle.jsonc_text.specs.declared.edit.Place.TheVariants.{Above, After}
-use Rattle.jsonc_edit.specs.Writing.{IsOfNumbers}
-use Rattle.jsonc_engine.specs.Argument.{IsPath}
+use Rattle.jsonc_engine.specs.Argument.{IsPath, IsValueOf}
 use Rattle.jsonc_engine.specs.Finding.{IsPointer}
 use Rattle.jsonc_engine.specs.declared.command.Place.{Place}
 use Rattle.jsonc_engine.specs.declared.command.Place.TheVariants.{Names, Pointer}
@@ -34,13 +32,6 @@ abbrev pub is_named : Target → Bool
 is_named (At place) = false
 is_named (Named name) = true
 
--- under the options the text of these bytes is a document, and v is its value, of equal names the last at the first place
-pub record IsJson (o : Options) (json : List ℕ) (v : Plain) : Type 0 where
-  pub value : Plain
-  pub document : IsDocument o (chars json) (Some value)
-  pub collapsed : v ≡ collapse value
-  pub numbers : IsOfNumbers o v
-
 -- the bytes of a text without line ends at its end
 abbrev pub IsWithoutEnd : List ℕ → List ℕ → Type 0
 IsWithoutEnd text s = (ends : List ℕ) × (text ≡ s ++ ends) × All (λ c. IsTrue (is_line_end c)) ends
@@ -63,8 +54,8 @@ IsRouteIf (Some place) route = IsRouteTo place route
 
 -- what the words of an edit ask for
 abbrev pub IsAskedBy : Options → Edit → Asked → Type 0
-IsAskedBy o (Put pointer json) asked = (ts : List (List ℕ)) × (v : Plain) × IsPointer pointer.now ts × IsJson o json.now v × (asked ≡ asks.put ts v)
-IsAskedBy o (Replace target json) asked = (route : Route) × (v : Plain) × IsRouteOf target route × IsJson o json.now v × (asked ≡ asks.replace route v)
+IsAskedBy o (Put pointer json) asked = (ts : List (List ℕ)) × (v : Plain) × IsPointer pointer.now ts × IsValueOf o json.now v × (asked ≡ asks.put ts v)
+IsAskedBy o (Replace target json) asked = (route : Route) × (v : Plain) × IsRouteOf target route × IsValueOf o json.now v × (asked ≡ asks.replace route v)
 IsAskedBy o (Remove target with_comments must_exist) asked =
     (route : Route) × IsRouteOf target route × (asked ≡ asks.remove route (is_named target) with_comments must_exist)
 IsAskedBy o (Rename place name) asked = (route : Route) × IsRouteTo place route × (asked ≡ asks.rename route (chars name.now))

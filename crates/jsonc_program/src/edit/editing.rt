@@ -1,7 +1,7 @@
 //! An edit as a change of a file's text.
 
 use crate::edit::{Edit, EditFault, edited};
-use crate::mark::{joined, split_mark};
+use crate::mark::{split_mark, with_mark};
 use jsonc_files::Change;
 use jsonc_parser::ParseOptions;
 use std::alloc::Global;
@@ -26,16 +26,13 @@ impl Change<Global> for Editing<'_> {
     ghost refuses = { λ c old fault. IsFileRefused (parse_options c.options) c.edit old fault };
 
     fn new_text(&mut self, old: &[u8]) -> Result<Option<Vec<u8>>, EditFault<Global>> {
-        let (mark, rest) = split_mark(old);
+        let (_, rest) = split_mark(old);
         let text = match edited(self.alloc, &self.options, self.edit, rest) {
             Ok(text) => text,
             Err(fault) => return Err(fault),
         };
-        if text.as_str().as_bytes() == rest {
-            return Ok(None);
-        }
-        match joined(self.alloc, mark, text.as_str().as_bytes()) {
-            Ok(new) => Ok(Some(new)),
+        match with_mark(self.alloc, old, text.as_str().as_bytes()) {
+            Ok(new) => Ok(new),
             Err(error) => Err(EditFault::from(error)),
         }
     }

@@ -54,9 +54,11 @@ impl<A: Allocator> fmt::Display for EditFault<A> {
                 f.write_str("jsonc: ")?;
                 error.fmt(f)
             }
-            EditFault::NotProperty => f.write_str("jsonc: value at the place is not a property's"),
+            EditFault::NotProperty => f.write_str(
+                "jsonc: value at the place is not a property's, and has no name",
+            ),
             EditFault::NotSorted => f.write_str("jsonc: value at the place is not an object"),
-            EditFault::NoComments => f.write_str("jsonc: comments are not allowed"),
+            EditFault::NoComments => f.write_str("jsonc: comments are not allowed in this dialect"),
         }
     }
 }

@@ -1,23 +1,23 @@
 //! What tasks make of documents.
 
-ghost use Rattle.std.specs.Prelude.{◌≡◌, ◌∷◌, [], Bool, IfErr, IfOk, IsErrOf, OnOk, Some, false, true};
-ghost use Rattle.jsonc_layout.specs.input.Views.{chars_of, plain};
+ghost use Rattle.std.specs.Prelude.{◌≡◌, ◌∷◌, [], Bool, IfErr, IfOk, IsErrOf, OnOk, Some, true};
+ghost use Rattle.jsonc_layout.specs.input.Views.{plain};
 ghost use Rattle.jsonc_run.specs.promise.Asked.{EditsTheText};
 ghost use Rattle.jsonc_cst.specs.Document.{HasNode, tree_of};
 ghost use Rattle.jsonc_parser.specs.patch.Pointer.{tokens_of};
 ghost use Rattle.jsonc_engine.specs.declared.fault.Fault.TheVariants as told;
 ghost use Rattle.jsonc_program.specs.edit.Asked as asks;
-ghost use Rattle.jsonc_program.specs.edit.Asked.{Asked, asked_of};
+ghost use Rattle.jsonc_program.specs.edit.Asked.{Asked, asked_of, asked_there, edit_at};
 ghost use Rattle.jsonc_program.specs.edit.Faults.{FailsWhatShown, IsRefusedThere, is_nothing, needed};
 ghost use Rattle.jsonc_program.specs.edit.Making.{MakesWhatShown};
 ghost use Rattle.jsonc_program.specs.edit.Routes.{IsLedTo, LeadsOver, route_of};
 
 use crate::edit::fault::EditFault;
 use crate::edit::place::{Way, entry_of, path_to, value_at};
-use crate::edit::sort::{sort_inside, sort_object};
-use crate::edit::task::Task;
+use crate::edit::sort::sort_inside;
+use crate::edit::task::{Step, Task};
 use jsonc_engine::fault::Fault;
-use jsonc_parser::cst;
+use jsonc_engine::sort_object;
 use jsonc_parser::cst::{CstInputValue, CstNode, CstRootNode, Edit, EditError, Over, run_unsorted};
 use jsonc_parser::patch::{Pointer, PutError, put};
 use std::alloc::Allocator;
@@ -89,52 +89,34 @@ fn path_there<A: Allocator + Copy>(
     }
 }
 
-/// Replaces what is there by a value.
-fn replace<A: Allocator + Copy>(
-    document: &mut CstRootNode<A>,
-    way: &Way<A>,
-    value: CstInputValue<A>,
-) -> Result<(), EditFault<A>>
-    ensures made { OnOk result (MakesWhatShown (asks.replace (route_of way.now) (plain value)) document.old document.new) }
-    ensures fails { IfErr result (FailsWhatShown (asks.replace (route_of way.now) (plain value)) document.old) }
+/// One edit of what the path leads to.
+fn edit_at<A: Allocator>(path: Vec<usize, A>, step: Step<A>) -> Edit<A>
+    ensures { result ≡ edit_at path step }
 {
-    let path = path_there(document, way)?;
-    match make_one(document, Edit::Replace(path, value)) {
-        Ok(()) => Ok(()),
-        Err(error) => Err(EditFault::from(error)),
+    match step {
+        Step::Replace(value) => Edit::Replace(path, value),
+        Step::Remove => Edit::Remove(path),
+        Step::Rename(name) => Edit::RenameProperty(path, name),
+        Step::Comment(place, text) => Edit::InsertComment(path, place, text),
     }
 }
 
-/// Gives the property there another name.
-fn rename<A: Allocator + Copy>(
+/// Makes one edit of what is there. Of what has a value there, a new name alone finds no place.
+fn make_there<A: Allocator + Copy>(
     document: &mut CstRootNode<A>,
     way: &Way<A>,
-    name: String<A>,
+    step: Step<A>,
 ) -> Result<(), EditFault<A>>
-    ensures made { OnOk result (MakesWhatShown (asks.rename (route_of way.now) (chars_of name)) document.old document.new) }
-    ensures fails { IfErr result (FailsWhatShown (asks.rename (route_of way.now) (chars_of name)) document.old) }
+    ensures made { (in_object : Bool) → OnOk result
+        (MakesWhatShown (asked_there (route_of way.now) in_object step) document.old document.new) }
+    ensures fails { (in_object : Bool) → IfErr result
+        (FailsWhatShown (asked_there (route_of way.now) in_object step) document.old) }
+    ensures stays { IsErrOf result (EditFault.Engine told.NoSuchValue) → document.new ≡ document.old }
 {
     let path = path_there(document, way)?;
-    match make_one(document, Edit::RenameProperty(path, name)) {
+    match make_one(document, edit_at(path, step)) {
         Ok(()) => Ok(()),
         Err(EditError::NoSuchPlace) => Err(EditFault::NotProperty),
-        Err(error) => Err(EditFault::from(error)),
-    }
-}
-
-/// Inserts a comment beside the entry there.
-fn comment<A: Allocator + Copy>(
-    document: &mut CstRootNode<A>,
-    way: &Way<A>,
-    place: cst::Place,
-    text: String<A>,
-) -> Result<(), EditFault<A>>
-    ensures made { OnOk result (MakesWhatShown (asks.comment (route_of way.now) place (chars_of text)) document.old document.new) }
-    ensures fails { IfErr result (FailsWhatShown (asks.comment (route_of way.now) place (chars_of text)) document.old) }
-{
-    let path = path_there(document, way)?;
-    match make_one(document, Edit::InsertComment(path, place, text)) {
-        Ok(()) => Ok(()),
         Err(error) => Err(EditFault::from(error)),
     }
 }
@@ -152,22 +134,6 @@ fn value_there<A: Allocator + Copy>(
     match value_at(document, way) {
         Ok(Some(value)) => Ok(value),
         Ok(None) => Err(nothing_there()),
-        Err(error) => Err(EditFault::from(error)),
-    }
-}
-
-/// Removes the entry there alone.
-fn remove_alone<A: Allocator + Copy>(
-    document: &mut CstRootNode<A>,
-    way: &Way<A>,
-) -> Result<(), EditFault<A>>
-    ensures made { (in_object : Bool) → OnOk result (MakesWhatShown (asks.remove (route_of way.now) in_object false true) document.old document.new) }
-    ensures fails { (in_object : Bool) → IfErr result (FailsWhatShown (asks.remove (route_of way.now) in_object false true) document.old) }
-    ensures stays { IsErrOf result (EditFault.Engine told.NoSuchValue) → document.new ≡ document.old }
-{
-    let path = path_there(document, way)?;
-    match make_one(document, Edit::Remove(path)) {
-        Ok(()) => Ok(()),
         Err(error) => Err(EditFault::from(error)),
     }
 }
@@ -202,7 +168,7 @@ fn remove<A: Allocator + Copy>(
     if with_comments {
         remove_with_comments(document, way)
     } else {
-        remove_alone(document, way)
+        make_there(document, way, Step::Remove)
     }
 }
 
@@ -265,7 +231,7 @@ pub(crate) fn make<A: Allocator + Copy>(
 {
     match task {
         Task::Put(pointer, value) => put_value(document, &pointer, value),
-        Task::Replace(way, value) => replace(document, &way, value),
+        Task::There(way, step) => make_there(document, &way, step),
         Task::Remove {
             way,
             in_object,
@@ -277,8 +243,6 @@ pub(crate) fn make<A: Allocator + Copy>(
             }
             remove_if_there(document, &way, with_comments, must_exist)
         }
-        Task::Rename(way, name) => rename(document, &way, name),
-        Task::Comment(way, place, text) => comment(document, &way, place, text),
         Task::Sort {
             way,
             is_recursive,

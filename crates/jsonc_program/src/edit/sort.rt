@@ -1,115 +1,45 @@
-//! Properties that are sorted by their names as they are written.
+//! All objects in a value, each with its properties in the order of their names.
 
-ghost use Rattle.std.specs.Prelude.{◌≡◌, IfErr, OnOk};
-ghost use Rattle.std.specs.Cmp.Lexicographic.{slice_cmp};
-ghost use Rattle.std.specs.Ordering.{nat_cmp};
+ghost use Rattle.std.specs.Prelude.{◌≡◌, IfErr, IfOk, OnOk, map};
+ghost use Rattle.std.specs.List.{All};
 ghost use Rattle.jsonc_cst.specs.Document.{HasNode, nodes_of};
-ghost use Rattle.jsonc_cst.specs.Nodes.{object_node, object_prop_node};
-ghost use Rattle.jsonc_engine.specs.Sorting.{written_name};
-ghost use Rattle.jsonc_program.specs.edit.Sorting.{HasSorted, SortsWhatShown};
+ghost use Rattle.jsonc_cst.specs.Nodes.{number_of, object_node};
+ghost use Rattle.jsonc_program.specs.edit.Sorting.{SortsWhatShown, objects_in};
 
-use jsonc_engine::written_name;
-use jsonc_parser::cst::{CstNode, CstObject, CstObjectProp, CstRootNode, EditError, TypedNode};
+use jsonc_engine::sort_object;
+use jsonc_parser::cst::{CstNode, CstObject, CstRootNode, EditError};
 use std::alloc::{AllocError, Allocator};
-use std::cmp::Ordering;
 
-/// Compares the names of two properties as they are written, without quotes, byte by byte.
-fn compare_names<A: Allocator>(
-    document: &CstRootNode<A>,
-    one: CstObjectProp,
-    other: CstObjectProp,
-) -> Ordering
-    requires one { HasNode document.now (object_prop_node one) }
-    requires other { HasNode document.now (object_prop_node other) }
-    ensures { result ≡ slice_cmp nat_cmp (written_name (nodes_of document.now) one.number)
-        (written_name (nodes_of document.now) other.number) }
-{
-    let name = written_name(document, one);
-    name.cmp(&written_name(document, other))
-}
-
-/// Sorts the properties of an object, each with all comments above it.
-fn sort_plainly<A: Allocator + Copy>(
-    document: &mut CstRootNode<A>,
-    object: CstObject,
-) -> Result<(), EditError>
-    requires { HasNode document.old (object_node object) }
-    ensures sorted { OnOk result (HasSorted (nodes_of document.old) (nodes_of document.new) object.number) }
-    ensures memory { IfErr result (λ e. e ≡ EditError.OutOfMemory) }
-{
-    match object.sort_properties().by(
-        document,
-        |document: &CstRootNode<_>, one, other| compare_names(document, one, other),
-    ) {
-        Ok(()) => Ok(()),
-        Err(error) => Err(error),
-    }
-}
-
-/// Sorts the properties of an object under the comments above the last blank line before each.
-fn sort_under_headers<A: Allocator + Copy>(
-    document: &mut CstRootNode<A>,
-    object: CstObject,
-) -> Result<(), EditError>
-    requires { HasNode document.old (object_node object) }
-    ensures sorted { OnOk result (HasSorted (nodes_of document.old) (nodes_of document.new) object.number) }
-    ensures memory { IfErr result (λ e. e ≡ EditError.OutOfMemory) }
-{
-    match object.sort_properties().keep_headers().by(
-        document,
-        |document: &CstRootNode<_>, one, other| compare_names(document, one, other),
-    ) {
-        Ok(()) => Ok(()),
-        Err(error) => Err(error),
-    }
-}
-
-/// Sorts the properties of an object, with headers kept or not.
-pub(crate) fn sort_object<A: Allocator + Copy>(
-    document: &mut CstRootNode<A>,
-    object: CstObject,
-    keeps_headers: bool,
-) -> Result<(), EditError>
-    requires { HasNode document.old (object_node object) }
-    ensures sorted { OnOk result (HasSorted (nodes_of document.old) (nodes_of document.new) object.number) }
-    ensures memory { IfErr result (λ e. e ≡ EditError.OutOfMemory) }
-{
-    if keeps_headers {
-        sort_under_headers(document, object)
-    } else {
-        sort_plainly(document, object)
-    }
-}
-
-/// The objects in a value, itself among them.
+/// The objects in a value, itself among them, each before those in it.
 fn objects_in<A: Allocator + Copy>(
     document: &CstRootNode<A>,
     value: CstNode,
 ) -> Result<Vec<CstObject, A>, AllocError>
     requires { HasNode document.now value }
+    ensures objects { IfOk result (λ found. map (λ x. x.number) found.items ≡ objects_in (nodes_of document.now) (number_of value)) }
+    ensures in_document { IfOk result (λ found. All (λ x. HasNode document.now (object_node x)) found.items) }
 {
     let mut objects = Vec::new(*document.allocator());
     for node in document.descendants(value) {
-        if let Some(object) = node.as_object() {
-            objects.push(object)?;
-        }
+        let Some(object) = node.as_object() else {
+            continue;
+        };
+        objects.push(object)?;
     }
     Ok(objects)
 }
 
-/// Sorts the properties of each of these objects that the document has.
+/// Sorts the properties of each of these objects, in this order.
 fn sort_objects<A: Allocator + Copy>(
     document: &mut CstRootNode<A>,
     objects: &[CstObject],
     keeps_headers: bool,
 ) -> Result<(), EditError>
-    ensures sorted { OnOk result (SortsWhatShown document.old document.new) }
+    requires { All (λ x. HasNode document.old (object_node x)) objects.now }
+    ensures sorted { OnOk result (SortsWhatShown keeps_headers (map (λ x. x.number) objects.now) document.old document.new) }
     ensures memory { IfErr result (λ e. e ≡ EditError.OutOfMemory) }
 {
     for object in objects {
-        if !document.holds((*object).node()) {
-            continue;
-        }
         match sort_object(document, *object, keeps_headers) {
             Ok(()) => {}
             Err(error) => return Err(error),
@@ -118,14 +48,15 @@ fn sort_objects<A: Allocator + Copy>(
     Ok(())
 }
 
-/// Sorts the properties of each object in a value.
+/// Sorts the properties of each object in a value, an object before those in it.
 pub(crate) fn sort_inside<A: Allocator + Copy>(
     document: &mut CstRootNode<A>,
     value: CstNode,
     keeps_headers: bool,
 ) -> Result<(), EditError>
     requires { HasNode document.old value }
-    ensures sorted { OnOk result (SortsWhatShown document.old document.new) }
+    ensures sorted { OnOk result
+        (SortsWhatShown keeps_headers (objects_in (nodes_of document.old) (number_of value)) document.old document.new) }
     ensures memory { IfErr result (λ e. e ≡ EditError.OutOfMemory) }
 {
     let Ok(objects) = objects_in(document, value) else {

@@ -68,11 +68,21 @@ pub enum Edit<'a> {
     },
 }
 
+/// What is made of what is there by one edit of the library.
+#[derive(Drop)]
+pub(crate) enum Step<A: Allocator> {
+    Replace(CstInputValue<A>),
+    /// The entry leaves without the comments that belong to it.
+    Remove,
+    Rename(String<A>),
+    Comment(cst::Place, String<A>),
+}
+
 /// What is made of a document.
 #[derive(Drop)]
 pub(crate) enum Task<A: Allocator> {
     Put(Pointer<A>, CstInputValue<A>),
-    Replace(Way<A>, CstInputValue<A>),
+    There(Way<A>, Step<A>),
     Remove {
         way: Way<A>,
         /// The document's value has to be an object.
@@ -80,8 +90,6 @@ pub(crate) enum Task<A: Allocator> {
         with_comments: bool,
         must_exist: bool,
     },
-    Rename(Way<A>, String<A>),
-    Comment(Way<A>, cst::Place, String<A>),
     Sort {
         way: Way<A>,
         is_recursive: bool,
@@ -119,7 +127,7 @@ fn comment_task<A: Allocator + Copy>(
     }
     let way = way_to(alloc, place)?;
     let comment = comment_of(alloc, text)?;
-    Ok(Task::Comment(way, side(is_after), comment))
+    Ok(Task::There(way, Step::Comment(side(is_after), comment)))
 }
 
 /// What an edit asks for.
@@ -139,7 +147,8 @@ pub(crate) fn task_of<A: Allocator + Copy>(
         }
         Edit::Replace { target, json } => {
             let way = way_of(alloc, target)?;
-            Ok(Task::Replace(way, value_of(alloc, options, json)?))
+            let value = value_of(alloc, options, json)?;
+            Ok(Task::There(way, Step::Replace(value)))
         }
         Edit::Remove {
             target,
@@ -153,7 +162,8 @@ pub(crate) fn task_of<A: Allocator + Copy>(
         }),
         Edit::Rename { place, name } => {
             let way = way_to(alloc, place)?;
-            Ok(Task::Rename(way, String::from_str(alloc, name)?))
+            let name = String::from_str(alloc, name)?;
+            Ok(Task::There(way, Step::Rename(name)))
         }
         Edit::Comment {
             place,

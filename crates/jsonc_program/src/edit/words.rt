@@ -1,30 +1,26 @@
 //! The places and the values that words name.
 
-ghost use Rattle.std.specs.Prelude.{◌≡◌, IfErr, IfOk, Some, chars, false, map, option_map, true, []};
+ghost use Rattle.std.specs.Prelude.{◌≡◌, IfErr, IfOk};
 ghost use Rattle.jsonc_text.specs.OptionsOf.{parse_options};
-ghost use Rattle.jsonc_text.specs.Plain.{array};
-ghost use Rattle.jsonc_ast.specs.Views as ast;
-ghost use Rattle.jsonc_layout.specs.input.Views.{items_of, plain};
-ghost use Rattle.jsonc_parser.specs.paths.Found.{names_of};
+ghost use Rattle.jsonc_layout.specs.input.Views.{plain};
 ghost use Rattle.jsonc_parser.specs.patch.Pointer.{tokens_of};
-ghost use Rattle.jsonc_engine.specs.Argument.{AreNames, AreNoNames, IsFaultOfNames, IsFaultOfPath, IsPath, items_in};
-ghost use Rattle.jsonc_engine.specs.Argument.{strings, text_in};
+ghost use Rattle.jsonc_engine.specs.Argument.{IsValueOf};
 ghost use Rattle.jsonc_engine.specs.Finding.{IsPointer};
 ghost use Rattle.jsonc_engine.specs.declared.command.Place.{Place};
 ghost use Rattle.jsonc_program.specs.edit.Faults.{IsFaultOfJson, IsFaultOfPlace, IsFaultOfPlaceIf};
 ghost use Rattle.jsonc_program.specs.edit.Faults.{IsFaultOfTarget};
 ghost use Rattle.jsonc_program.specs.edit.Routes.{route_of};
-ghost use Rattle.jsonc_program.specs.edit.Words.{IsJson, IsRouteIf, IsRouteOf, IsRouteTo};
+ghost use Rattle.jsonc_program.specs.edit.Words.{IsRouteIf, IsRouteOf, IsRouteTo};
 
 use crate::edit::fault::EditFault;
 use crate::edit::place::Way;
 use crate::edit::task::Target;
+use jsonc_engine::argument;
+use jsonc_engine::argument::read_path;
 use jsonc_engine::command::Place;
-use jsonc_engine::fault::Fault;
-use jsonc_parser::ast::Value;
-use jsonc_parser::cst::{CstInputValue, EditError, input};
-use jsonc_parser::patch::{Pointer, PointerError};
-use jsonc_parser::{CollectOptions, ParseOptions, parse_to_ast};
+use jsonc_parser::ParseOptions;
+use jsonc_parser::cst::CstInputValue;
+use jsonc_parser::patch::Pointer;
 use std::alloc::Allocator;
 
 /// The pointer of a text.
@@ -35,10 +31,9 @@ pub(crate) fn pointer_of<A: Allocator + Copy>(
     ensures parsed { IfOk result (λ pointer. IsPointer text.now (tokens_of pointer)) }
     ensures refused { IfErr result (IsFaultOfPlace (Place.Pointer text.entry)) }
 {
-    match Pointer::parse(alloc, text) {
+    match argument::pointer_of(alloc, text) {
         Ok(pointer) => Ok(pointer),
-        Err(PointerError::OutOfMemory) => Err(EditFault::from(EditError::OutOfMemory)),
-        Err(error) => Err(EditFault::Engine(Fault::Pointer(error))),
+        Err(fault) => Err(EditFault::Engine(fault)),
     }
 }
 
@@ -48,109 +43,12 @@ pub(crate) fn value_of<A: Allocator + Copy>(
     options: &ParseOptions,
     json: &str,
 ) -> Result<CstInputValue<A>, EditFault<A>>
-    ensures value { IfOk result (λ value. IsJson (parse_options options.now) json.now (plain value)) }
+    ensures value { IfOk result (λ value. IsValueOf (parse_options options.now) json.now (plain value)) }
     ensures refused { IfErr result (IsFaultOfJson (parse_options options.now) json.now) }
 {
-    match input::from_json(alloc, json, options) {
-        Ok(Some(value)) => Ok(value),
-        Ok(None) => Err(EditFault::Engine(Fault::NoValue)),
-        Err(error) => Err(EditFault::Engine(Fault::Argument(error))),
-    }
-}
-
-/// The text of a value that is a string.
-pub(crate) fn text_of<'b, A: Allocator>(value: &'b Value<'_, A>) -> Option<&'b str>
-    ensures { option_map (λ s. chars s.now) result ≡ text_in (ast.plain value.now) }
-{
-    match value {
-        Value::StringLit(string) => Some(string.value.as_str()),
-        Value::NumberLit(_) => None,
-        Value::BooleanLit(_) => None,
-        Value::Object(_) => None,
-        Value::Array(_) => None,
-        Value::NullKeyword(_) => None,
-    }
-}
-
-/// The elements of a value that is an array.
-fn elements_of<'b, 'a, A: Allocator>(value: &'b Value<'a, A>) -> Option<&'b [Value<'a, A>]>
-    ensures { option_map (λ vs. items_of (map ast.plain vs.now)) result ≡ items_in (ast.plain value.now) }
-{
-    match value {
-        Value::StringLit(_) => None,
-        Value::NumberLit(_) => None,
-        Value::BooleanLit(_) => None,
-        Value::Object(_) => None,
-        Value::Array(array) => Some(array.elements.as_slice()),
-        Value::NullKeyword(_) => None,
-    }
-}
-
-/// Whether these values are strings.
-fn are_strings<A: Allocator>(values: &[Value<'_, A>]) -> bool
-    ensures strings { result ≡ true → AreNames (Some (array (items_of (map ast.plain values.now)))) }
-    ensures other { result ≡ false → AreNoNames (Some (array (items_of (map ast.plain values.now)))) }
-{
-    for value in values {
-        let Some(_) = text_of(value) else {
-            return false;
-        };
-    }
-    true
-}
-
-/// The strings that these values are, or a fault where one is none, which is seen without memory.
-fn strings_of<A: Allocator + Copy>(
-    alloc: A,
-    values: &[Value<'_, A>],
-) -> Result<Vec<String<A>, A>, Fault<A>>
-    ensures strings { IfOk result (λ names. array (items_of (map ast.plain values.now)) ≡ strings (names_of names.items)) }
-    ensures refused { IfErr result (IsFaultOfNames (Some (array (items_of (map ast.plain values.now))))) }
-{
-    if !are_strings(values) {
-        return Err(Fault::NotNames);
-    }
-    let mut names = Vec::new(alloc);
-    for value in values {
-        let Some(text) = text_of(value) else {
-            return Err(Fault::NotNames);
-        };
-        let name = String::from_str(alloc, text)?;
-        names.push(name)?;
-    }
-    Ok(names)
-}
-
-/// The names that a value is, if there is one.
-fn names_in<A: Allocator + Copy>(
-    alloc: A,
-    value: &Option<Value<'_, A>>,
-) -> Result<Vec<String<A>, A>, Fault<A>>
-    ensures names { IfOk result (λ names. option_map ast.plain value.now ≡ Some (strings (names_of names.items))) }
-    ensures refused { IfErr result (IsFaultOfNames (option_map ast.plain value.now)) }
-{
-    let Some(value) = value else {
-        return Err(Fault::NotNames);
-    };
-    match elements_of(value) {
-        Some(elements) => strings_of(alloc, elements),
-        None => Err(Fault::NotNames),
-    }
-}
-
-/// The names of a path, which is read under the default options, as the engine reads it.
-fn read_path<A: Allocator + Copy>(alloc: A, path: &str) -> Result<Vec<String<A>, A>, Fault<A>>
-    ensures names { IfOk result (λ names. IsPath path.now (names_of names.items)) }
-    ensures refused { IfErr result (IsFaultOfPath path.now) }
-{
-    match parse_to_ast(
-        alloc,
-        path,
-        &CollectOptions::default(),
-        &ParseOptions::default(),
-    ) {
-        Ok(read) => names_in(alloc, &read.value),
-        Err(error) => Err(Fault::Path(error)),
+    match argument::value_of(alloc, options, json) {
+        Ok(value) => Ok(value),
+        Err(fault) => Err(EditFault::Engine(fault)),
     }
 }
 

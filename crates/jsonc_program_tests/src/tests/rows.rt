@@ -180,12 +180,12 @@ pub static TOLD: [Row; 21] = [
     (
         &["rename", "/0", "c"],
         "[1]",
-        "jsonc: value at the place is not a property's",
+        "jsonc: value at the place is not a property's, and has no name",
     ),
     (
         &["rename", "", "c"],
         "{\"a\": 1}",
-        "jsonc: value at the place is not a property's",
+        "jsonc: value at the place is not a property's, and has no name",
     ),
     (&["comment", "/0", "c"], "[]", "jsonc: no such value"),
     (&["comment", "/0", "/* c"], "[1]", "jsonc: Invalid comment"),

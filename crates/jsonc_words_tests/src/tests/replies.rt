@@ -68,6 +68,13 @@ format --all => 2 --all
 mend f g => 2 several FILEs need --in-place
 mend -i - => 2 standard input
 mend --check => 2 --check
+--dialect json check f => 2 the command is the first word
+--dialect=json check f => 2 the command is the first word
+-i print f => 2 the command is the first word
+comment --help => 0 jsonc comment [OPTIONS] -f <FILE> <PLACE> [FILE]...
+mend f g => 2 one document alone is written to standard output
+json -i f => 2 and not for --check or --diff
+put -f - /a => 2 since standard input has the argument
 put -f - /a => 2 a FILE has to be named
 append -f - => 2 a FILE has to be named
 put -f - /a - => 2 standard input cannot be read"#;

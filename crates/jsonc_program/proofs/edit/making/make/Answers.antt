@@ -1,4 +1,4 @@
-use Rattle.std.proofs.Common.{◌∙◌, OnOk, ap, not, subst, sym}
+use Rattle.std.proofs.Common.{◌∙◌, IfErr, OnOk, ap, false, not, subst, sym}
 use Rattle.jsonc_engine.specs.declared.fault.Fault.TheVariants as told
 use Rattle.jsonc_program.specs.declared.edit.fault.EditFault.TheVariants as faults
 use Rattle.jsonc_program.specs.edit.Asked.{asked_of, remove}
@@ -19,17 +19,13 @@ pub returns-in-Put-clause-made : goal.returns-in-Put-clause-made
 returns-in-Put-clause-made g c =
     subst (λ t. OnOk c.put_value.result (MakesWhatShown (asked_of t) c.args.document.now c.put_value.new.document)) (sym c.in-Put.is) c.put_value.ensures.made
 
-pub returns-in-Replace-clause-made : goal.returns-in-Replace-clause-made
-returns-in-Replace-clause-made g c =
-    subst (λ t. OnOk c.replace.result (MakesWhatShown (asked_of t) c.args.document.now c.replace.new.document)) (sym c.in-Replace.is) c.replace.ensures.made
+pub returns-in-There-clause-made : goal.returns-in-There-clause-made
+returns-in-There-clause-made g c =
+    subst (λ t. OnOk c.make_there.result (MakesWhatShown (asked_of t) c.args.document.now c.make_there.new.document)) (sym c.in-There.is) (c.make_there.ensures.made false)
 
-pub returns-in-Rename-clause-made : goal.returns-in-Rename-clause-made
-returns-in-Rename-clause-made g c =
-    subst (λ t. OnOk c.rename.result (MakesWhatShown (asked_of t) c.args.document.now c.rename.new.document)) (sym c.in-Rename.is) c.rename.ensures.made
-
-pub returns-in-Comment-clause-made : goal.returns-in-Comment-clause-made
-returns-in-Comment-clause-made g c =
-    subst (λ t. OnOk c.comment.result (MakesWhatShown (asked_of t) c.args.document.now c.comment.new.document)) (sym c.in-Comment.is) c.comment.ensures.made
+pub returns-in-There-clause-fails : goal.returns-in-There-clause-fails
+returns-in-There-clause-fails g c =
+    subst (λ t. IfErr c.make_there.result (FailsWhatShown (asked_of t) c.args.document.now)) (sym c.in-There.is) (c.make_there.ensures.fails false)
 
 pub returns-in-Sort-clause-made : goal.returns-in-Sort-clause-made
 returns-in-Sort-clause-made g c =

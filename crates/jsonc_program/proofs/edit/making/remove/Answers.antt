@@ -10,4 +10,4 @@ returns-then-with_comments-clause-made g c = λ in_object.
 
 pub returns-else-with_comments-clause-made : goal.returns-else-with_comments-clause-made
 returns-else-with_comments-clause-made g c = λ in_object.
-    subst (λ b. OnOk c.remove_alone.result (MakesWhatShown (remove (route_of c.args.way.now) in_object b true) c.args.document.now c.remove_alone.new.document)) (sym c.if-with_comments.false) (c.remove_alone.ensures.made in_object)
+    subst (λ b. OnOk c.make_there.result (MakesWhatShown (remove (route_of c.args.way.now) in_object b true) c.args.document.now c.make_there.new.document)) (sym c.if-with_comments.false) (c.make_there.ensures.made in_object)
