@@ -16,6 +16,7 @@ pub mod RemovedEntries
 pub mod RootGone
 pub mod CommaTexts
 pub mod CommentTexts
+pub mod CommentEnds
 pub mod Insides
 pub mod Joined
 pub mod Arriving
@@ -50,6 +51,10 @@ pub mod Hexadecimal
 pub mod LinesInside
 pub mod AlongRows
 pub mod UniquePlaces
+pub mod FoundNodes
+pub mod CommasCome
+pub mod TrailingRows
+pub mod CommasByPaths
 pub mod LacksLines
 pub mod EntriesHeld
 pub mod CommasBehind
