@@ -43,7 +43,7 @@ if command -v gcc > /dev/null; then
     gcc $flags -O2 bench/c/calls.c -o "$work/calls" $archives -lpthread
     "$work/calls"
     if gcc -fsanitize=address,undefined -x c -o "$work/tried" - <<< 'int main(void) { return 0; }' 2> /dev/null; then
-        gcc $flags -O1 -g -DREFUSE -fsanitize=address,undefined -Wl,--wrap=malloc,--wrap=realloc \
+        gcc $flags -O1 -g -DREFUSE -fsanitize=address,undefined -Wl,--wrap=malloc,--wrap=realloc,--wrap=free \
             bench/c/calls.c -o "$work/refused" $archives -lpthread
         "$work/refused"
     else

@@ -1,5 +1,5 @@
 /* Each call from C: what it answers, threads that call at once, and each allocation refused in turn.
- * The last needs -Wl,--wrap=malloc,--wrap=realloc, and is left out where REFUSE is not defined. */
+ * The last needs -Wl,--wrap=malloc,--wrap=realloc,--wrap=free, and is left out where REFUSE is not defined. */
 #include "jsonc.h"
 #include <pthread.h>
 #include <stdio.h>
@@ -169,6 +169,11 @@ static void lists(void) {
   is(s == JSONC_NO_SUCH_PLACE && fault.made == 0 && out.len == 0, "an edit without a place");
   s = jsonc_edit(B("[3]"), edits, 4, JSONC_ALL, &out, &fault);
   is(s == JSONC_NO_SUCH_EDIT && fault.made == 3 && out.len == 0, "an edit of no kind");
+  s = jsonc_edit(B("[3"), edits, 3, JSONC_ALL, &out, &fault);
+  is(s == JSONC_TEXT && fault.made == 0 && out.len == 0, "edits of a text that is no document");
+  fault.made = 3;
+  s = jsonc_edit(B("\xff"), edits, 3, JSONC_ALL, &out, &fault);
+  is(s == JSONC_NOT_UTF8 && fault.made == 0 && out.len == 0, "edits of bytes that are no UTF-8");
 }
 
 /* By hand: above on a line of its own with the entry's indent, after it one space behind its comma. */
@@ -300,10 +305,25 @@ static void threads(void) {
 #ifdef REFUSE
 void *__real_malloc(size_t n);
 void *__real_realloc(void *p, size_t n);
+void __real_free(void *p);
 static long left = -1;
+/* How many blocks are out. No thread calls beside the calls that are counted. */
+static long out_now;
 static int refuses(void) { return left >= 0 && left-- == 0; }
-void *__wrap_malloc(size_t n) { return refuses() ? 0 : __real_malloc(n); }
-void *__wrap_realloc(void *p, size_t n) { return refuses() ? 0 : __real_realloc(p, n); }
+void *__wrap_malloc(size_t n) {
+  void *p = refuses() ? 0 : __real_malloc(n);
+  out_now += p != 0;
+  return p;
+}
+void *__wrap_realloc(void *p, size_t n) {
+  void *q = refuses() ? 0 : __real_realloc(p, n);
+  out_now += !p && q;
+  return q;
+}
+void __wrap_free(void *p) {
+  out_now -= p != 0;
+  __real_free(p);
+}
 
 /* So numbered, or, past the last of these, into a buffer, which is copied. */
 static uint32_t call_either(int which, jsonc_text_t *out, jsonc_fault_t *fault) {
@@ -311,7 +331,10 @@ static uint32_t call_either(int which, jsonc_text_t *out, jsonc_fault_t *fault) 
   char room[256];
   size_t len = 0;
   uint32_t s = call_into(which - LAST_CALL, room, sizeof room, &len, fault);
-  if (len) *out = (jsonc_text_t){memcpy(__real_malloc(len), room, len), len};
+  if (len) {
+    *out = (jsonc_text_t){memcpy(__real_malloc(len), room, len), len};
+    out_now++;
+  }
   return s;
 }
 
@@ -319,6 +342,7 @@ static void refusals(void) {
   for (int which = 0; which <= LAST_CALL + LAST_INTO; which++) {
     jsonc_text_t whole = JSONC_NO_TEXT;
     jsonc_fault_t fault = {0};
+    out_now = 0;
     uint32_t ample = call_either(which, &whole, &fault);
     int used = 1;
     for (long n = 0; used && n < 100000; n++) {
@@ -332,6 +356,7 @@ static void refusals(void) {
       jsonc_free(out);
     }
     jsonc_free(whole);
+    is(out_now == 0, "all memory is given back");
   }
 }
 #endif

@@ -20,6 +20,7 @@ use Rattle.std.proofs.alloc.Calls.{Al, α, seen}
 use Rattle.failing_alloc.specs.contracts.Refusing as whole
 use Rattle.failing_alloc.specs.contracts.Turns as turns
 use Rattle.failing_alloc.specs.contracts.Turns.refuses as asks
+use Rattle.failing_alloc.specs.contracts.Turns.take_back as takes
 
 -- A `Refusing` over the allocator, and the places of its parts where it lies at a place.
 module _ (Z : Al) where
@@ -43,12 +44,25 @@ module _ {M : Type 1} {𝓤 : Ura M} (𝓛 : Logic 𝓤) (memory : Memory → ba
   abbrev pub Asks : Contract 𝓤
   Asks = triple_of 𝓛 asks.signature (asks.spec 𝓛 memory run)
 
+  abbrev pub TakesBack : Contract 𝓤
+  TakesBack = triple_of 𝓛 takes.signature (takes.spec 𝓛 memory run)
+
   module _ (κ : Lft) (q : Share) (p : ℕ × ℕ) (t : turns.the_row.Denot) where
     abbrev pub asked : Asks.Ghost
     asked = (((κ, tt), (q, tt), tt, (record { ref_ptr = p; now = t }, tt), (vptr p.0 p.1 ∷ [], tt)), tt)
 
     pub asking : ent 𝓤 (sep 𝓤 (A.lft κ q) (sem 𝓛 (hidden_shr turns.the_row κ t p.0 p.1))) (Asks.pre asked)
     asking =
+        qed 𝓛 (‵ (flft κ q) ∷ ‵ (hidden_shr turns.the_row κ t p.0 p.1) ∷ []) ∵
+        nothing ! $ move ! (1 ∷ 0 ∷ []) $ join ! $ nothing ! $ move ! (2 ∷ []) $ feq_i ! (List Val) (vptr p.0 p.1 ∷ []) (vptr p.0 p.1 ∷ []) refl $ fjoin ! $ fjoin ! $
+        move ! (1 ∷ 0 ∷ []) $ join ! $
+        nothing ! $ move ! (1 ∷ 0 ∷ []) $ done !
+
+    abbrev pub taken : TakesBack.Ghost
+    taken = (((κ, tt), (q, tt), tt, (record { ref_ptr = p; now = t }, tt), (vptr p.0 p.1 ∷ [], tt)), tt)
+
+    pub taking : ent 𝓤 (sep 𝓤 (A.lft κ q) (sem 𝓛 (hidden_shr turns.the_row κ t p.0 p.1))) (TakesBack.pre taken)
+    taking =
         qed 𝓛 (‵ (flft κ q) ∷ ‵ (hidden_shr turns.the_row κ t p.0 p.1) ∷ []) ∵
         nothing ! $ move ! (1 ∷ 0 ∷ []) $ join ! $ nothing ! $ move ! (2 ∷ []) $ feq_i ! (List Val) (vptr p.0 p.1 ∷ []) (vptr p.0 p.1 ∷ []) refl $ fjoin ! $ fjoin ! $
         move ! (1 ∷ 0 ∷ []) $ join ! $

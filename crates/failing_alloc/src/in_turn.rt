@@ -7,7 +7,7 @@ use std::alloc::Global;
 /// Refuses each request of a call in turn, until none is refused.
 ///
 /// The answer is how many were, and whether the call wanted memory each time; there is none where it did
-/// neither want memory nor answer right, or did not answer in the end.
+/// neither want memory nor answer right, did not give all memory back, or did not answer in the end.
 fn in_turn<C: Fn(&Refusing<Global>) -> Outcome>(alloc: Global, call: C) -> Option<(u64, bool)>
     requires { C.IsAlwaysCallable call }
 {
@@ -17,6 +17,7 @@ fn in_turn<C: Fn(&Refusing<Global>) -> Outcome>(alloc: Global, call: C) -> Optio
         let outcome = call(&heap);
         let was_refused = heap.asked() > number;
         match outcome {
+            _ if !heap.has_all_back() => return None,
             Outcome::Wanted if was_refused => {}
             Outcome::Answered if was_refused => wants_each_time = false,
             Outcome::Answered => return Some((number, wants_each_time)),

@@ -1,5 +1,5 @@
 //! What crates of tests share: an allocator that refuses some requests for memory, so that each request of
-//! a call can be refused in turn; what came of a call; flags of which one is up; a writer that takes no memory; and
+//! a call can be refused in turn, and counts what is not given back; what came of a call; flags of which one is up; a writer that takes no memory; and
 //! a reader and a writer one of whose calls fails.
 #![tactic(auto)]
 
@@ -17,6 +17,8 @@ use std::cell::Cell;
 struct Turns {
     /// How many requests came.
     asked: Cell<u64>,
+    /// How many blocks are out: passed on, and not given back.
+    out: Cell<u64>,
     /// The number of the first request that is refused, counted from 0.
     first: u64,
     /// The number after the last one that is refused.
@@ -27,6 +29,7 @@ impl Turns {
     fn new(first: u64, end: u64) -> Turns {
         Turns {
             asked: Cell::new(0),
+            out: Cell::new(0),
             first,
             end,
         }
@@ -36,7 +39,16 @@ impl Turns {
     fn refuses(&self) -> bool {
         let number = self.asked.get();
         self.asked.set(number.saturating_add(1));
-        self.first <= number && number < self.end
+        let is_refused = self.first <= number && number < self.end;
+        if !is_refused {
+            self.out.set(self.out.get().saturating_add(1));
+        }
+        is_refused
+    }
+
+    /// Counts a block that is given back.
+    fn take_back(&self) {
+        self.out.set(self.out.get().saturating_sub(1));
     }
 }
 
@@ -76,6 +88,11 @@ impl<A: Allocator> Refusing<A> {
     pub fn asked(&self) -> u64 {
         self.turns.asked.get()
     }
+
+    /// Whether each block that was handed out is given back.
+    pub fn has_all_back(&self) -> bool {
+        self.turns.out.get() == 0
+    }
 }
 
 unsafe impl<A: Allocator> Allocator for Refusing<A> {
@@ -89,6 +106,7 @@ unsafe impl<A: Allocator> Allocator for Refusing<A> {
     }
 
     unsafe fn deallocate(&self, ptr: *mut u8, size: usize, align: usize) {
+        self.turns.take_back();
         self.heap.deallocate(ptr, size, align);
     }
 }

@@ -1,5 +1,5 @@
 -- Edits of C, read one after another.
-use Rattle.std.proofs.Common.{◌≡◌, ◌<◌, ◌+◌, ◌++◌, ◌∷◌, ℕ, zero, suc, List, [], Some, arith, get_or, inr, length, refl, subst, sym, take}
+use Rattle.std.proofs.Common.{◌≡◌, ◌<◌, ◌+◌, ◌++◌, ◌∷◌, ℕ, zero, suc, List, [], Some, arith, get_or, length, refl, subst, sym, take}
 use Rattle.std.specs.List.{slice_get}
 use Rattle.std.proofs.lemmas.List.{take_more}
 use Rattle.jsonc_text.specs.declared.errors.ParseError.{ParseError}
@@ -46,4 +46,4 @@ got (x ∷ xs) (suc k) d h = got xs k d (omega (arith, h))
 
 -- an edit of a list is none, and the fault has its number
 pub unread_there : (cs : List JsoncEdit) (k : ℕ) (d : JsoncEdit) (status : ℕ) (f : JsoncFault) → k < length cs → IsUnread (get_or cs k d) status f → IsUnreadIn cs status (counted f k)
-unread_there cs k d status f within why = inr (get_or cs k d, got cs k d within, unread_counted k why)
+unread_there cs k d status f within why = (get_or cs k d, got cs k d within, unread_counted k why)

@@ -24,7 +24,3 @@ tells_no_edits status f none = record {
   nothing = λ zero. none;
   number = λ four seven. subst (λ (g : JsoncFault). g ≡ record no_fault { made = g.made }) (sym none) refl;
 }
-
--- what is the same but for the number of edits
-pub same_but_made : (old new : JsoncFault) → new ≡ old → new ≡ record old { made = new.made }
-same_but_made old new same = subst (λ (g : JsoncFault). g ≡ record old { made = g.made }) (sym same) refl

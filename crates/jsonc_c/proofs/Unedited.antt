@@ -18,10 +18,11 @@ module _ (A : Type 0) (o p : Options) (text : List ℕ) (cs : List JsoncEdit) (s
   edited_so es made read edited = (es, read, subst (λ (q : Options). IsEditedText q (chars text) es (chars made)) same edited)
 
   -- the text was refused
-  pub unedited_text : (e : ParseError) (status : ℕ) (f : JsoncFault) → RefusesText o text e × IsFault text e × ParseFault o text true e → (status ≡ 1) ⊎ ((status ≡ 4) × IsToldOf e f) → IsUnedited A p text cs status f
-  unedited_text e status f why (inl is) = subst (λ (s : ℕ). IsUnedited A p text cs s f) (sym is) IsUnedited.for_memory
-  unedited_text e status f why (inr told) =
-      subst (λ (s : ℕ). IsUnedited A p text cs s f) (sym told.0) (IsUnedited.for_text e (is_refusal o p text text e same refl why.1 why.0 why.2) told.1)
+  pub unedited_text : (e : ParseError) (status : ℕ) (f : JsoncFault) → RefusesText o text e × IsFault text e × ParseFault o text true e → (status ≡ 1) ⊎ ((status ≡ 4) × IsToldOf e f) → f.made ≡ 0
+      → IsUnedited A p text cs status f
+  unedited_text e status f why (inl is) none = subst (λ (s : ℕ). IsUnedited A p text cs s f) (sym is) (IsUnedited.for_memory none)
+  unedited_text e status f why (inr told) none =
+      subst (λ (s : ℕ). IsUnedited A p text cs s f) (sym told.0) (IsUnedited.for_text e (is_refusal o p text text e same refl why.1 why.0 why.2) told.1 none)
 
   -- an edit was
   pub unedited_stop : (es : List (Edit A)) (why : EditError) (f : JsoncFault) (status : ℕ) → AreReadAs cs es → StopsText o (chars text) es f.made why → status ≡ edit_status why → IsUnedited A p text cs status f
@@ -38,8 +39,7 @@ unread_tells (IsUnread.for_value has empty) = (omega arith, λ e. omega (arith, 
 unread_tells (IsUnread.for_kind past) = (omega arith, λ e. omega (arith, e))
 
 unread_in_tells : (cs : List JsoncEdit) (status : ℕ) (f : JsoncFault) → IsUnreadIn cs status f → (1 ≤ status) × ¬ (status ≡ 17)
-unread_in_tells cs status f (inl is) = (omega (arith, is), λ e. omega (arith, is, e))
-unread_in_tells cs status f (inr (c, at, why)) = unread_tells why
+unread_in_tells cs status f (c, at, why) = unread_tells why
 
 refused_tells : (why : EditError) → (1 ≤ edit_status why) × ¬ (edit_status why ≡ 17)
 refused_tells refused.OutOfMemory = (omega arith, λ e. omega (arith, e))
@@ -54,7 +54,7 @@ refused_tells refused.NestingDepthExceeded = (omega arith, λ e. omega (arith, e
 -- nor is that a text was not edited
 pub unedited_tells : {A : Type 0} {o : Options} {text : List ℕ} {cs : List JsoncEdit} {status : ℕ} {f : JsoncFault} → IsUnedited A o text cs status f → (1 ≤ status) × ¬ (status ≡ 17)
 unedited_tells {cs = cs} (IsUnedited.for_edits {status = s} {f = f} why) = unread_in_tells cs s f why
-unedited_tells (IsUnedited.for_bytes other) = (omega arith, λ e. omega (arith, e))
-unedited_tells IsUnedited.for_memory = (omega arith, λ e. omega (arith, e))
-unedited_tells (IsUnedited.for_text e refused told) = (omega arith, λ e. omega (arith, e))
+unedited_tells (IsUnedited.for_bytes other none) = (omega arith, λ e. omega (arith, e))
+unedited_tells (IsUnedited.for_memory none) = (omega arith, λ e. omega (arith, e))
+unedited_tells (IsUnedited.for_text e refused told none) = (omega arith, λ e. omega (arith, e))
 unedited_tells (IsUnedited.for_edit es why read stops) = refused_tells why

@@ -120,9 +120,9 @@ pub data IsUnread (c : JsoncEdit) : ℕ → JsoncFault → Type 0 where
   for_value : {f : JsoncFault} → HasValue c.kind → IsDocument all_on (chars c.json.now) None → IsUnread c 8 f
   for_kind : {f : JsoncFault} → greatest_kind < c.kind → IsUnread c 16 f
 
--- why one of C's edits is none: an allocation failed, or so it is of the one of the number that the fault tells
+-- why one of C's edits is none: the one of the number that the fault tells
 abbrev pub IsUnreadIn : List JsoncEdit → ℕ → JsoncFault → Type 0
-IsUnreadIn cs status f = (status ≡ 1) ⊎ ((c : JsoncEdit) × (slice_get cs f.made ≡ Some c) × IsUnread c status f)
+IsUnreadIn cs status f = (c : JsoncEdit) × (slice_get cs f.made ≡ Some c) × IsUnread c status f
 
 -- The text is a document, and if the options allow what the edits write, they lead from it to one of the other text.
 abbrev pub IsEdited : Type 0 → Options → List ℕ → List JsoncEdit → List ℕ → Type 0
@@ -132,7 +132,7 @@ IsEdited A o text cs made = (es : List (Edit A)) × AreReadAs cs es × IsEditedT
 -- made, or there was no memory for the text behind all.
 pub data IsUnedited (A : Type 0) (o : Options) (text : List ℕ) (cs : List JsoncEdit) : ℕ → JsoncFault → Type 0 where
   for_edits : {status : ℕ} {f : JsoncFault} → IsUnreadIn cs status f → IsUnedited A o text cs status f
-  for_bytes : {f : JsoncFault} → ¬ (IsUtf8 text) → IsUnedited A o text cs 3 f
-  for_memory : {f : JsoncFault} → IsUnedited A o text cs 1 f
-  for_text : {f : JsoncFault} (e : ParseError) → IsRefusalOf o text e → IsToldOf e f → IsUnedited A o text cs 4 f
+  for_bytes : {f : JsoncFault} → ¬ (IsUtf8 text) → f.made ≡ 0 → IsUnedited A o text cs 3 f
+  for_memory : {f : JsoncFault} → f.made ≡ 0 → IsUnedited A o text cs 1 f
+  for_text : {f : JsoncFault} (e : ParseError) → IsRefusalOf o text e → IsToldOf e f → f.made ≡ 0 → IsUnedited A o text cs 4 f
   for_edit : {f : JsoncFault} (es : List (Edit A)) (why : EditError) → AreReadAs cs es → StopsText o (chars text) es f.made why → IsUnedited A o text cs (edit_status why) f

@@ -253,6 +253,7 @@ pub(crate) fn read_edits(
         match read_edit(alloc, edit, fault) {
             Ok(edit) => {
                 let Ok(()) = read.push(edit) else {
+                    fault.made = count;
                     return Err(OUT_OF_MEMORY);
                 };
             }

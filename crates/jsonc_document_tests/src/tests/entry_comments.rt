@@ -170,6 +170,21 @@ fn others_have_none<A: Allocator + Copy>(doc: &CstRootNode<A>) -> Outcome {
         .then(has_comments(doc, CstNode::from(doc.root()), ""))
 }
 
+/// Its comment and the end of the comment's line leave as by `remove`.
+fn others_leave<A: Allocator + Copy>(doc: &mut CstRootNode<A>) -> Outcome {
+    let (Some(comment), Some(line_end)) = (child_at(doc, 1), child_at(doc, 2)) else {
+        return Outcome::Other;
+    };
+    let of_comment = comment.remove_with_comments(doc);
+    if !doc.holds(line_end) {
+        return Outcome::Other;
+    }
+    match of_comment.and(line_end.remove_with_comments(doc)) {
+        Ok(()) => Outcome::of(prints(&*doc, "{\"a\": /* d */1 /* e */}")),
+        Err(error) => Outcome::from(error),
+    }
+}
+
 #[test]
 fn comments_of_entries_are_told_in_turn(rt: HostRuntime) -> Result<(), Fail> {
     for (text, wanted) in &ROWS {
@@ -250,11 +265,14 @@ fn entries_of_damaged_documents_are_removed_with_their_comments(
 }
 
 #[test]
-fn other_nodes_have_none_without_memory(rt: HostRuntime) {
+fn other_nodes_have_none_and_leave_without_memory(rt: HostRuntime) {
     let asked = asked_by(rt.alloc(), PROPERTY);
     let heap = Refusing::after(rt.alloc(), asked);
     let outcome = match read(&heap, PROPERTY) {
-        Ok(doc) => others_have_none(&doc),
+        Ok(mut doc) => {
+            let told = others_have_none(&doc);
+            told.then(others_leave(&mut doc))
+        }
         Err(outcome) => outcome,
     };
     assert!(rt; outcome == Outcome::Answered);

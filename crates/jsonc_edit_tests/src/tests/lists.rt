@@ -318,3 +318,24 @@ fn a_list_stops_at_its_second_edit_for_some_request(rt: HostRuntime) -> Result<(
     assert!(rt; (0..1000u64).any(|number| stops_at_second(alloc, number)));
     Ok(())
 }
+
+const NINE: [Step; 1] = [(&[0], Change::Value(Way::Replace, "9"))];
+
+/// How many requests come with 9 in the place of a text's first value.
+fn asked_for_nine(alloc: Global, text: &str) -> u64 {
+    let heap = Refusing::at(alloc, u64::MAX);
+    if let Ok(mut doc) = read(&heap, text) {
+        drop(run_steps(&mut doc, &heap, &NINE));
+    }
+    heap.asked()
+}
+
+/// The texts have as many nodes, and the lines of one no indent.
+#[test]
+fn a_value_on_one_line_asks_for_no_layout(rt: HostRuntime) {
+    let (indented, bare) = ("[\n 1\n]", "[ \n1\n]");
+    assert_eq!(rt;
+        asked_for_nine(rt.alloc(), indented),
+        asked_for_nine(rt.alloc(), bare)
+    );
+}

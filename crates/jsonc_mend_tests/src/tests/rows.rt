@@ -1,11 +1,23 @@
 //! Texts with faults, the texts that their changes make, and how many these are, by a second implementation of the rules.
 
+use jsonc_text::options::ParseOptions;
+use std::default::Default;
+
 /// Which options a text is read with.
 #[derive(Clone, Copy)]
 pub enum Dialect {
     Json,
     Jsonc,
     All,
+}
+
+/// The options of a dialect.
+pub fn options_of(dialect: Dialect) -> ParseOptions {
+    match dialect {
+        Dialect::Json => ParseOptions::json(),
+        Dialect::Jsonc => ParseOptions::jsonc(),
+        Dialect::All => ParseOptions::default(),
+    }
 }
 
 /// Options, a text, the text with all changes made, and their number.

@@ -1,4 +1,4 @@
-use Rattle.std.proofs.Common.{◌≡◌, rules, string_bytes, subst}
+use Rattle.std.proofs.Common.{◌≡◌, ◌∙◌, ap, rules, string_bytes, subst}
 use Rattle.std.specs.declared.alloc.Global.{Global}
 use Rattle.jsonc_text.specs.OptionsOf.{parse_options}
 use Rattle.jsonc_parser.specs.Promise.{IsNotEdited}
@@ -17,7 +17,7 @@ returns-in-Err-Parse-clause-refused c = λ listed read.
     let same : parse_options c.options_of.result ≡ options_of c.args.options = search rules in
     unedited_text Global (parse_options c.options_of.result) (options_of c.args.options) c.args.text.now listed same c.in-Err-Parse.error c.tell_error.result c.tell_error.new.fault
     (subst (IsNotEdited {A = Global} (parse_options c.options_of.result) c.args.text.now c.args.edits.items) c.in-Err-Parse.field-0-is c.in-Err-Parse.ensures.refused)
-    c.tell_error.ensures.status
+    c.tell_error.ensures.status (c.tell_error.ensures.made ∙ ap (λ f. f.made) c.requires.untold)
 
 pub returns-in-Err-Edit-clause-refused : goal.returns-in-Err-Edit-clause-refused
 returns-in-Err-Edit-clause-refused c = λ listed read.

@@ -1,4 +1,4 @@
-use Rattle.std.proofs.Common.{◌≡◌, ℕ, List, IfErr, IfOk, IsUtf8, rules, string_bytes, subst}
+use Rattle.std.proofs.Common.{◌≡◌, ◌∙◌, ap, ℕ, List, IfErr, IfOk, IsUtf8, rules, string_bytes, subst}
 use Rattle.std.specs.declared.alloc.Global.{Global}
 use Rattle.jsonc_c.specs.Edits.{IsEdited, IsUnedited}
 use Rattle.jsonc_c.specs.Options.{options_of}
@@ -10,7 +10,7 @@ returns-in-Err-clause-refused c = IsUnedited.for_edits c.in-Err.ensures.refused
 pub returns-in_default-clause-refused : goal.returns-in_default-clause-refused
 returns-in_default-clause-refused c =
     let other : ¬ (IsUtf8 c.args.text.now) = search rules in
-    IsUnedited.for_bytes other
+    IsUnedited.for_bytes other (ap (λ f. f.made) (c.in-Ok.ensures.left ∙ c.no_fault.ensures))
 
 pub returns-clause-edited : goal.returns-clause-edited
 returns-clause-edited c =

@@ -1,7 +1,7 @@
 use Rattle.std.proofs.Common.{[], ap, arith, refl, subst, sym, ◌∙◌}
 use Rattle.jsonc_c.specs.Edits.{AreReadAs, none_read}
+use Rattle.jsonc_c.specs.Edits.IsUnread.{for_memory}
 use Rattle.jsonc_c.proofs.Reading.{counted, next_read, unread_there}
-use Rattle.jsonc_c.proofs.Telling.{same_but_made}
 use Rattle.jsonc_c.proofs.Unedited.{unread_tells}
 use Rattle.jsonc_c.proofs.read.read_edits.Goals as goal
 
@@ -14,8 +14,11 @@ loop-count-preserved c = record {
   left = c.in-Ok.ensures.left ∙ c.loop-count.invariant.left;
 }
 
+pub returns-in_default-clause-refused : goal.returns-in_default-clause-refused
+returns-in_default-clause-refused c = unread_there c.args.edits.now c.loop-count.count _ 1 c.read_edit.new.fault c.loop-count-test.true for_memory
+
 pub returns-in_default-clause-untold : goal.returns-in_default-clause-untold
-returns-in_default-clause-untold c = λ seven. same_but_made c.args.fault.now c.read_edit.new.fault (c.in-Ok.ensures.left ∙ c.loop-count.invariant.left)
+returns-in_default-clause-untold c = λ seven. ap (λ f. counted f c.loop-count.count) (c.in-Ok.ensures.left ∙ c.loop-count.invariant.left)
 
 pub returns-in-Err-clause-refused : goal.returns-in-Err-clause-refused
 returns-in-Err-clause-refused c =
