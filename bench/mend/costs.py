@@ -18,7 +18,7 @@ from shapes import SHAPES
 
 SETS = {'JSON': '0' * 10, 'JSONC': '1010000000', 'all options': '1' * 10}
 FACTOR = 10
-LEAST = 0.06
+LEAST = 0.1
 RUNS = 3
 TURNS = 3
 

@@ -7,7 +7,8 @@ use crate::mends::mend_to_output;
 use crate::telling::{tell_cause, tell_json, tell_place};
 use crate::work::{End, Work, ended, refuse};
 use jsonc_engine::command::Command;
-use jsonc_engine::engine::run_with;
+use jsonc_engine::engine::written_by;
+use jsonc_engine::output::Written;
 use jsonc_program::argument::{argument_of, check_argument};
 use jsonc_program::dialect::options_of;
 use jsonc_program::edit::{EditFault, edited};
@@ -18,35 +19,38 @@ use jsonc_program::value::value_text;
 use jsonc_words::call::{Call, Input, Text};
 use std::alloc::Global;
 
-/// What the engine makes of an input.
-fn run_engine(
+/// What the engine makes of an input. Where that is the input itself, it is not copied.
+fn run_engine<'a>(
     work: &Work<'_>,
     command: Command<'_>,
-    input: &[u8],
-) -> Result<Option<String>, EditFault<Global>> {
-    match run_with(work.rt.alloc(), &work.options, command, input) {
-        Ok(text) => Ok(text),
+    input: &'a [u8],
+) -> Result<Option<Written<'a, Global>>, EditFault<Global>> {
+    match written_by(work.rt.alloc(), &work.options, command, input) {
+        Ok(written) => Ok(written),
         Err(fault) => Err(EditFault::Engine(fault)),
     }
 }
 
 /// What is written of an input.
-fn made(work: &Work<'_>, input: &[u8]) -> Result<Option<String>, EditFault<Global>> {
+fn made<'a>(
+    work: &Work<'_>,
+    input: &'a [u8],
+) -> Result<Option<Written<'a, Global>>, EditFault<Global>> {
     match work.job {
         Job::Run(command) => run_engine(work, command, input),
         Job::Edit(edit) => match edited(work.rt.alloc(), &work.options, edit, input) {
-            Ok(text) => Ok(Some(text)),
+            Ok(text) => Ok(Some(Written::Text(text))),
             Err(fault) => Err(fault),
         },
         Job::Get { place, is_raw } => {
             match value_text(work.rt.alloc(), &work.options, place, is_raw, input) {
-                Ok(text) => Ok(Some(text)),
+                Ok(text) => Ok(Some(Written::Text(text))),
                 Err(fault) => Err(fault),
             }
         }
         Job::Format { layout, .. } => {
             match laid_out(work.rt.alloc(), &work.options, &layout, input) {
-                Ok(text) => Ok(Some(text)),
+                Ok(text) => Ok(Some(Written::Text(text))),
                 Err(fault) => Err(fault),
             }
         }
@@ -61,9 +65,9 @@ fn run_to_output(work: &Work<'_>, input: Input<'_>) -> End {
     };
     let (mark, rest) = split_mark(&bytes);
     match made(work, rest) {
-        Ok(Some(text)) => {
+        Ok(Some(written)) => {
             let mark = if work.writes_document { mark } else { &[] };
-            ended(write_out(work.rt, mark, text.as_str().as_bytes()))
+            ended(write_out(work.rt, mark, written.as_str().as_bytes()))
         }
         Ok(None) => ended(0),
         Err(fault) => refuse(work, input, &fault, &bytes),

@@ -1,18 +1,19 @@
 -- A walk over a text that finds the places where its lines begin.
-use Rattle.std.proofs.Common.{◌≡◌, ◌∙◌, refl, sym, ap, subst, arith, ℕ, ◌+◌, ◌-◌, ◌<◌, ◌≤◌, List, [], ◌∷◌, ◌++◌, length, get_or, chars, slice_index, IsUtf8, Bool, true, false, cond, inl, inr, ◌⊎◌}
-use Rattle.std.specs.Char.{encode_utf8}
+use Rattle.std.proofs.Common.{◌≡◌, ◌∙◌, refl, sym, ap, subst, arith, ℕ, ◌+◌, ◌-◌, ◌<◌, ◌≤◌, List, [], ◌∷◌, ◌++◌, length, get_or, chars, slice_index, IsUtf8, Bool, true, false, not, cond, ◌&&◌, ◌||◌, ◌==◌, IsTrue, inl, inr, ◌⊎◌}
 use Rattle.std.proofs.lemmas.Bool.{cases_lt}
 use Rattle.std.proofs.lemmas.List.{append-nil, append_assoc, get_or_append_left, get_or_default, get_or_push, length_push}
 use Rattle.std.proofs.lemmas.List.Sorted.{IsNonDecreasingBy-from_default}
 use Rattle.std.specs.List.Sorted.{IsNonDecreasing}
-use Rattle.std.proofs.lemmas.Str.{chars_past_char}
-use Rattle.jsonc_text.specs.Text.{byte_length}
+use Rattle.std.proofs.lemmas.Str.{IsCharBoundary-start}
+use Rattle.jsonc_text.specs.Chars.{Steps}
+use Rattle.jsonc_text.specs.Text.{byte_length, next, no, rest, Many, step, stop}
 use Rattle.jsonc_text.specs.Places.{ends_line}
-use Rattle.jsonc_text.proofs.Cuts.{byte_length-append}
+use Rattle.jsonc_text.specs.string.Between.{is_neither}
+use Rattle.jsonc_text.proofs.Cuts.{byte_length-append, place_after}
 use Rattle.jsonc_parser.specs.Places.{walked_by, LineColumnBy}
 use Rattle.jsonc_parser.specs.LineStarts.{AreLineStarts}
 use Rattle.jsonc_parser.proofs.Changes.{Later, later}
-use Rattle.jsonc_parser.proofs.LineWalk.{lines_rise, passed_size, place_boundary, text_start, walked_append}
+use Rattle.jsonc_parser.proofs.LineWalk.{lines_rise, place_boundary, text_start, walked_append}
 
 -- the place s is the first of the line k
 pub record IsFirst (w : ℕ → ℕ) (t : List ℕ) (s k : ℕ) : Type 0 where
@@ -90,44 +91,53 @@ each_more w t starts more s e each last i l = elim (cases_lt i (length starts)) 
       subst (λ p. IsFirst w t p (i + 1)) (sym at) (subst (λ k. IsFirst w t s (k + 1)) (sym end) last)
 ]
 
--- the next character of what is left
-pub found_char : (text was next left : List ℕ) (c : ℕ) (starts : List ℕ) → IsUtf8 was → was ≡ encode_utf8 c ++ next → left ≡ next → HasFound text (chars was) starts → HasFound text (c ∷ chars left) starts
-found_char text was next left c starts u e f x = subst (λ t. HasFound text t starts) (chars_past_char was next c u e ∙ ap (λ t. c ∷ chars t) (sym f)) x
-
--- what is left is no longer than all
-pub found_within : (text rest : List ℕ) (c : ℕ) (starts : List ℕ) → IsUtf8 text → IsUtf8 rest → HasFound (chars text) (c ∷ chars rest) starts → length rest ≤ length text
-found_within text rest c starts u v x = omega (arith, passed_size text rest (x.passed ++ c ∷ []) u v (x.split ∙ sym (append_assoc x.passed (c ∷ []) (chars rest))))
-
 -- a line end is passed
-pub found_line : (text rest : List ℕ) (c : ℕ) (starts more : List ℕ) (s : ℕ) → IsUtf8 text → IsUtf8 rest → HasFound (chars text) (c ∷ chars rest) starts → (b : Bool) → b ≡ ends_line c (chars rest) → b ≡ true
-    → s ≡ length text - length rest → more ≡ starts ++ s ∷ [] → HasFound (chars text) (chars rest) more
-found_line text rest c starts more s u v x b is true_here at e =
-    let ends : ends_line c (chars rest) ≡ true = sym is ∙ true_here in
-    let split : chars text ≡ (x.passed ++ c ∷ []) ++ chars rest = x.split ∙ sym (append_assoc x.passed (c ∷ []) (chars rest)) in
-    let place : byte_length (x.passed ++ c ∷ []) ≡ s = omega (arith, at, passed_size text rest (x.passed ++ c ∷ []) u v split) in
-    let last : (w : ℕ → ℕ) → IsFirst w (chars text) s (length starts + 1) = λ w. subst (λ p. IsFirst w (chars text) p (length starts + 1)) place (begins_line w (chars text) x.passed c (chars rest) (length starts) x.split (x.line w) ends) in
+pub found_line : (text : List ℕ) (at after c : ℕ) (starts more : List ℕ) → IsUtf8 text → Steps text at c after → HasFound (chars text) (rest text at) starts → ends_line c (rest text after) ≡ true → more ≡ starts ++ after ∷ []
+    → HasFound (chars text) (rest text after) more
+found_line text at after c starts more u one x ends e =
+    let r = rest text after in
+    let whole : chars text ≡ x.passed ++ c ∷ r = x.split ∙ ap (λ t. x.passed ++ t) one.0 in
+    let line : (w : ℕ → ℕ) → (walked_by w (1, 1) x.passed (c ∷ r)).0 ≡ length starts = λ w. ap (λ t. (walked_by w (1, 1) x.passed t).0) (sym one.0) ∙ x.line w in
+    let split : chars text ≡ (x.passed ++ c ∷ []) ++ r = whole ∙ sym (append_assoc x.passed (c ∷ []) r) in
+    let long : after ≡ 0 + byte_length (x.passed ++ c ∷ []) = place_after text (x.passed ++ c ∷ []) 0 after u (IsCharBoundary-start text u) one.1 split in
+    let place : byte_length (x.passed ++ c ∷ []) ≡ after = omega (arith, long) in
+    let last : (w : ℕ → ℕ) → IsFirst w (chars text) after (length starts + 1) = λ w. subst (λ p. IsFirst w (chars text) p (length starts + 1)) place (begins_line w (chars text) x.passed c r (length starts) whole (line w) ends) in
     record {
       passed = x.passed ++ c ∷ [];
       split = split;
       line = λ w.
-          (ap (λ q. q.0) (walked_append w (1, 1) x.passed (c ∷ []) (chars rest))
-          ∙ ap (λ b. (cond {A = ℕ × ℕ} b ((walked_by w (1, 1) x.passed (c ∷ chars rest)).0 + 1, 1) ((walked_by w (1, 1) x.passed (c ∷ chars rest)).0, (walked_by w (1, 1) x.passed (c ∷ chars rest)).1 + w c)).0) ends
-          ∙ ap (λ k. k + 1) (x.line w)
-          ∙ sym (ap length e ∙ length_push starts s));
-      each = λ w. each_more w (chars text) starts more s e (x.each w) (last w);
+          (ap (λ q. q.0) (walked_append w (1, 1) x.passed (c ∷ []) r)
+          ∙ ap (λ b. (cond {A = ℕ × ℕ} b ((walked_by w (1, 1) x.passed (c ∷ r)).0 + 1, 1) ((walked_by w (1, 1) x.passed (c ∷ r)).0, (walked_by w (1, 1) x.passed (c ∷ r)).1 + w c)).0) ends
+          ∙ ap (λ k. k + 1) (line w)
+          ∙ sym (ap length e ∙ length_push starts after));
+      each = λ w. each_more w (chars text) starts more after e (x.each w) (last w);
     }
 
 -- another character is passed
-pub found_on : (text : List ℕ) (c : ℕ) (r starts : List ℕ) → HasFound text (c ∷ r) starts → (b : Bool) → b ≡ ends_line c r → b ≡ false → HasFound text r starts
-found_on text c r starts x b is no_end = record {
+found_on : (text : List ℕ) (c : ℕ) (r starts : List ℕ) → HasFound text (c ∷ r) starts → ends_line c r ≡ false → HasFound text r starts
+found_on text c r starts x no_end = record {
   passed = x.passed ++ c ∷ [];
   split = x.split ∙ sym (append_assoc x.passed (c ∷ []) r);
   line = λ w.
       (ap (λ q. q.0) (walked_append w (1, 1) x.passed (c ∷ []) r)
-      ∙ ap (λ b. (cond {A = ℕ × ℕ} b ((walked_by w (1, 1) x.passed (c ∷ r)).0 + 1, 1) ((walked_by w (1, 1) x.passed (c ∷ r)).0, (walked_by w (1, 1) x.passed (c ∷ r)).1 + w c)).0) (sym is ∙ no_end)
+      ∙ ap (λ b. (cond {A = ℕ × ℕ} b ((walked_by w (1, 1) x.passed (c ∷ r)).0 + 1, 1) ((walked_by w (1, 1) x.passed (c ∷ r)).0, (walked_by w (1, 1) x.passed (c ∷ r)).1 + w c)).0) no_end
       ∙ x.line w);
   each = x.each;
 }
+
+pub found_step : (text : List ℕ) (at after c : ℕ) (starts : List ℕ) → Steps text at c after → HasFound (chars text) (rest text at) starts → ends_line c (rest text after) ≡ false → HasFound (chars text) (rest text after) starts
+found_step text at after c starts one x no_end = found_on (chars text) c (rest text after) starts (subst (λ t. HasFound (chars text) t starts) one.0 x) no_end
+
+-- neither an LF nor a CR ends a line
+no_line_end : (x y w : Bool) → IsTrue (not (x || y)) → x || (y && w) ≡ false
+no_line_end true y w h = cc
+no_line_end false true w h = cc
+no_line_end false false w h = refl
+
+-- characters that end no line are passed
+pub found_run : (text t r starts : List ℕ) → Many (is_neither 0x0A 0x0D) t r → HasFound text t starts → HasFound text r starts
+found_run text t r starts stop x = x
+found_run text (c ∷ t) r starts (step h m) x = found_run text t r starts m (found_on text c t starts x (no_line_end (c == 0x0A) (c == 0x0D) (no (λ d. d == 0x0A) (next t)) h))
 
 -- all lines are found
 pub found_all : (text starts : List ℕ) → HasFound text [] starts → AreLineStarts text starts

@@ -9,7 +9,9 @@ ghost use Rattle.jsonc_parser.specs.LineStarts.{AreLineStarts, IsMark};
 ghost use Rattle.jsonc_parser.specs.Places.{LineColumnBy, LineColumnUtf16, units};
 
 use crate::places::{ColumnUnit, LineAndColumn, place_from, walk_to};
+use jsonc_text::chars::char_at;
 use jsonc_text::line::ends_line;
+use jsonc_text::string::stops::stop_place;
 use std::alloc::{AllocError, Allocator};
 use std::marker::Model;
 
@@ -103,17 +105,18 @@ fn count_to(places: &[usize], place: usize) -> usize
     places.partition_point(|other| *other <= place)
 }
 
-// The places where the lines of a text begin.
+// The places where the lines of a text begin. What stands between two line ends is passed by bytes.
 fn line_starts<A: Allocator>(alloc: A, text: &str) -> Result<Vec<usize, A>, AllocError>
     ensures { IfOk result (λ starts. AreLineStarts (chars text.now) starts.items) }
 {
     let mut starts = Vec::new(alloc);
     starts.push(0)?;
-    let mut rest = text.chars();
-    while let Some(c) = rest.next() {
-        let left = rest.as_str();
-        if ends_line(c, left) {
-            starts.push(text.len() - left.len())?;
+    let mut at = stop_place(text, 0, b'\n', b'\r');
+    while let Some(c) = char_at(text, at) {
+        let next = at + c.len_utf8();
+        at = stop_place(text, next, b'\n', b'\r');
+        if ends_line(c, &text[next..]) {
+            starts.push(next)?;
         }
     }
     Ok(starts)
