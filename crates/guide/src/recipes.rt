@@ -1,8 +1,8 @@
 //! Recipes that edit a document.
 
 use jsonc_parser::cst::{
-    CstContainerNode, CstInputValue, CstObjectProp, CstRootNode, Edit, EditError, Over,
-    TrailingCommaMode, TypedNode, run_unsorted,
+    CstInputValue, CstObjectProp, CstRootNode, Edit, EditError, Over, TrailingCommaMode, TypedNode,
+    run_unsorted,
 };
 use jsonc_parser::settings::{find_at, set_at, set_last_at};
 use std::alloc::{AllocError, Allocator};
@@ -90,9 +90,9 @@ pub(crate) fn remove_found<A: Allocator + Copy>(doc: &mut CstRootNode<A>) -> Res
         return Ok(());
     };
     if doc.holds(found)
-        && let Some(CstContainerNode::ObjectProp(property)) = found.parent(doc)
+        && let Some(entry) = doc.entry_of(found)
     {
-        property.remove_with_comments(doc)?;
+        entry.remove_with_comments(doc)?;
     }
     Ok(())
 }

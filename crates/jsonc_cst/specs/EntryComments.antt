@@ -16,7 +16,7 @@ use Rattle.jsonc_cst.specs.declared.cst.node.CstComment.{CstComment}
 use Rattle.jsonc_cst.specs.declared.cst.node.CstNode.{CstNode}
 use Rattle.jsonc_cst.specs.Document.{content_of, nodes_of}
 use Rattle.jsonc_cst.specs.Nodes.{number_of, typed_at}
-use Rattle.jsonc_cst.specs.Readings.{comment_under}
+use Rattle.jsonc_cst.specs.Readings.{comment_under, is_property_at, typed_if}
 use Rattle.jsonc_cst.specs.sorting.Pins.{kept_headers}
 
 module _ (at : ℕ → Content) where
@@ -47,6 +47,15 @@ is_entry_in ns n (Some c) = is_element_at ns n && (is_array_or_object (content_a
 abbrev pub is_entry_at : List Node → ℕ → Bool
 is_entry_at ns n = is_entry_in ns n (parent_at ns n)
 
+-- the property that a node is the name or the value of, where it is an entry
+abbrev pub entry_around : List Node → ℕ → Option ℕ → Option ℕ
+entry_around ns n None = None
+entry_around ns n (Some p) = if is_element_at ns n && (is_property_at ns p && is_entry_at ns p) then Some p else None
+
+-- the entry that a node is, or is the name or the value of
+abbrev pub entry_at_number : List Node → ℕ → Option ℕ
+entry_at_number ns n = if is_entry_at ns n then Some n else entry_around ns n (parent_at ns n)
+
 -- what is between the brackets
 abbrev pub row_at : List Node → Option ℕ → List ℕ
 row_at ns None = []
@@ -57,6 +66,10 @@ abbrev pub comments_at : List Node → ℕ → List ℕ
 comments_at ns n = comments_in (content_at ns) (row_at ns (parent_at ns n)) n
 
 module _ {A : Type 0} where
+  -- the entry of a node
+  abbrev pub entry_of_node : CstRootNode A → CstNode → Option CstNode
+  entry_of_node d node = typed_if (nodes_of d) (entry_at_number (nodes_of d) (number_of node))
+
   -- those of an entry, and none of a node that is no entry
   abbrev pub comments_of_entry : CstRootNode A → CstNode → List CstComment
   comments_of_entry d node = if is_entry_at (nodes_of d) (number_of node) then map comment_under (comments_at (nodes_of d) (number_of node)) else []

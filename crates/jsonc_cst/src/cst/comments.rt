@@ -1,15 +1,18 @@
 //! The comments that belong to an entry.
 
-ghost use Rattle.std.specs.Prelude.{◌≡◌, ◌<◌, length, not, IfErr, IfOk, IsTrue, OnErr};
+ghost use Rattle.std.specs.Prelude.{◌≡◌, ◌<◌, length, not, IfErr, IfOk, IfSome, IsTrue, OnErr};
 ghost use Rattle.std.specs.List.{All, take_while};
-ghost use Rattle.jsonc_tree.specs.Tree.{content_at};
+ghost use Rattle.jsonc_tree.specs.Tree.{content_at, parent_at};
 ghost use Rattle.jsonc_layout.specs.nodes.Kinds.{is_element_at};
 ghost use Rattle.jsonc_layout.specs.nodes.Siblings.{siblings_after, siblings_before};
 ghost use Rattle.jsonc_cst.specs.Document.{HasNode, nodes_of};
-ghost use Rattle.jsonc_cst.specs.EntryComments.{comment_numbers, comments_around, comments_at, comments_of_entry, is_entry_at};
+ghost use Rattle.jsonc_cst.specs.EntryComments.{comment_numbers, comments_around, comments_at, comments_of_entry, entry_around, entry_of_node};
+ghost use Rattle.jsonc_cst.specs.EntryComments.{is_entry_at};
 ghost use Rattle.jsonc_cst.specs.EntryComments.{tail_of};
 ghost use Rattle.jsonc_cst.specs.Nodes.{comment_node, number_of};
 
+use super::access::node_at;
+use super::elements::is_property;
 use super::layout::comments_under;
 use super::node::{CstComment, CstNode};
 use super::{CstRootNode, EditError};
@@ -97,6 +100,19 @@ fn is_entry<A: Allocator>(tree: &Tree<A>, node: usize) -> bool
     }
 }
 
+// The property that a node is the name or the value of, where it is an entry.
+fn entry_around<A: Allocator>(tree: &Tree<A>, node: usize) -> Option<usize>
+    requires { node < length tree.now.nodes }
+    ensures entry { result ≡ entry_around tree.now.nodes node (parent_at tree.now.nodes node) }
+    ensures in_tree { IfSome result (λ n. n < length tree.now.nodes) }
+{
+    let parent = tree.parent(node)?;
+    if is_element(tree, node) && is_property(tree, parent) && is_entry(tree, parent) {
+        return Some(parent);
+    }
+    None
+}
+
 // The comments of an entry.
 fn comments_of<A: Allocator + Copy>(
     alloc: A,
@@ -120,6 +136,24 @@ fn comments_of<A: Allocator + Copy>(
 }
 
 impl<A: Allocator + Copy> CstRootNode<A> {
+    /// The entry of a node: the element of an array or the property of an object that it is, or whose name or value it is.
+    ///
+    /// In `{"a": [1]}` the entry of the 1 is the 1, and that of the array, of the name `"a"` and of the property is
+    /// the property. None of the document's value, of a bracket, comma or colon, of blanks and comments, and where the
+    /// array or object lacks a bracket. What removes, renames or comments takes an entry.
+    pub fn entry_of(&self, node: CstNode) -> Option<CstNode>
+        requires { HasNode self.now node }
+        ensures entry { result ≡ entry_of_node self.now node }
+        ensures in_document { IfSome result (HasNode self.now) }
+    {
+        let number = node.number();
+        if is_entry(&self.tree, number) {
+            return Some(node_at(&self.tree, number));
+        }
+        let property = entry_around(&self.tree, number)?;
+        Some(node_at(&self.tree, property))
+    }
+
     /// The comments that belong to an entry, an element of an array or a property of an object, as they are printed.
     ///
     /// Before it they are those below the last blank line, but none on the line of the entry or bracket before it if

@@ -28,7 +28,7 @@ fn node_under<A: Allocator>(tree: &Tree<A>, number: usize) -> CstNode
 }
 
 // Whether the node of a number is a property.
-fn is_property<A: Allocator>(tree: &Tree<A>, number: usize) -> bool
+pub(super) fn is_property<A: Allocator>(tree: &Tree<A>, number: usize) -> bool
     ensures { result ≡ is_property_at tree.now.nodes number }
 {
     if number >= tree.len() {

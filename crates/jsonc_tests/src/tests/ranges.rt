@@ -20,6 +20,20 @@ static PLACES: [(usize, usize, usize, usize, usize); 7] = [
     (23, 23, 24, 0, 24),
 ];
 
+/// Places of `ENTRIES`, each with the entry of the innermost node there, and with that of its parent.
+static ENTRIES_AT: [(usize, Option<(usize, usize)>, Option<(usize, usize)>); 8] = [
+    (0, None, None),
+    (1, Some((1, 18)), Some((1, 18))),
+    (4, None, Some((1, 18))),
+    (6, None, Some((1, 18))),
+    (7, Some((7, 8)), Some((1, 18))),
+    (8, None, Some((1, 18))),
+    (9, None, Some((1, 18))),
+    (14, Some((14, 17)), Some((1, 18))),
+];
+
+const ENTRIES: &str = "{\"a\": [1,/*b*/\"c\"]}";
+
 /// The ranges of all nodes of the text, in its order.
 static ALL: [(usize, usize); 20] = [
     (0, 24),
@@ -59,6 +73,46 @@ fn nodes_have_ranges(rt: HostRuntime) -> Result<(), Fail> {
         assert!(rt; ranges_at(&doc, *place) == Some(ranges));
     }
     assert!(rt; doc.node_at(24).is_none());
+    Ok(())
+}
+
+/// Whether a node has an entry of this range, or none.
+fn has_entry<A: Allocator>(
+    doc: &CstRootNode<A>,
+    node: CstNode,
+    wanted: Option<(usize, usize)>,
+) -> bool
+    requires { HasNode doc.now node }
+{
+    match (doc.entry_of(node), wanted) {
+        (Some(entry), Some((start, end))) => doc.range(entry) == Some(Range::new(start, end)),
+        (None, None) => true,
+        _ => false,
+    }
+}
+
+/// Whether the innermost node at a place and its parent have these entries.
+fn have_entries<A: Allocator>(
+    doc: &CstRootNode<A>,
+    row: &(usize, Option<(usize, usize)>, Option<(usize, usize)>),
+) -> bool {
+    let (place, wanted, above) = row;
+    let Some(node) = doc.node_at(*place) else {
+        return false;
+    };
+    let Some(parent) = node.parent(doc) else {
+        return false;
+    };
+    has_entry(doc, node, *wanted) && has_entry(doc, CstNode::from(parent), *above)
+}
+
+#[test]
+fn nodes_have_entries(rt: HostRuntime) -> Result<(), Fail> {
+    let doc = CstRootNode::parse(rt.alloc(), ENTRIES, &ParseOptions::jsonc())?;
+    for row in &ENTRIES_AT {
+        assert!(rt; have_entries(&doc, row));
+    }
+    assert!(rt; has_entry(&doc, CstNode::from(doc.root()), None));
     Ok(())
 }
 
