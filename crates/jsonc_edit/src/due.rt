@@ -154,7 +154,7 @@ fn children_backwards<A: Allocator>(tree: &Tree<A>, container: usize) -> Previou
 }
 
 // The last of them that prints something.
-fn seen_last<A: Allocator>(tree: &Tree<A>, container: usize) -> Option<usize>
+pub(crate) fn seen_last<A: Allocator>(tree: &Tree<A>, container: usize) -> Option<usize>
     requires { container < length tree.now.nodes }
     ensures seen { result ≡ seen_last tree.now.nodes container }
     ensures in_tree { IsThere tree.now.nodes result }

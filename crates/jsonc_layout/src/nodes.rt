@@ -19,7 +19,7 @@ pub use kinds::{
     is_blank, is_comma, is_comment, is_element, is_inline_trivia, is_newline, is_property_kind,
     is_token, is_trivia, is_whitespace,
 };
-pub use names::{decoded_name, decoded_value, get, is_named};
+pub use names::{decoded_name, decoded_value, get, is_named, name_read};
 pub(crate) use property::first_element_from;
 pub use property::{lacks_name, name_of, value_of};
 pub use siblings::{

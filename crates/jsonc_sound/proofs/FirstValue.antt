@@ -1,9 +1,10 @@
 -- A first value in a root's row of trivia.
-use Rattle.std.proofs.Common.{ℕ, ◌≡◌, ◌∙◌, sym, ap, subst, refl, Bool, true, false, not, List, [], ◌∷◌, ◌++◌, Option, None, IsTrue, append-nil, rules}
+use Rattle.std.proofs.Common.{ℕ, ◌≡◌, ◌∙◌, sym, ap, subst, refl, Bool, true, false, not, cond, List, [], ◌∷◌, ◌++◌, Option, Some, None, ◌==◌, IsTrue, append-nil, rules}
 use Rattle.std.proofs.lemmas.List.{append_assoc}
 use Rattle.std.proofs.lemmas.Str.{chars-IsAscii}
 use Rattle.jsonc_text.specs.Options.{Options}
-use Rattle.jsonc_text.specs.Text.{next}
+use Rattle.jsonc_text.specs.Text.{next, starts}
+use Rattle.jsonc_text.proofs.UniqueGaps.{comment_begins}
 use Rattle.jsonc_text.specs.Plain.{Plain}
 use Rattle.jsonc_tree.specs.Content.{Content}
 use Rattle.jsonc_tree.specs.declared.node.CstNewlineKind.{CstNewlineKind}
@@ -13,6 +14,7 @@ use Rattle.jsonc_tree.specs.Values as values
 use Rattle.jsonc_tree.specs.Values.{HasNoValue, HoldsValue}
 use Rattle.jsonc_layout.specs.nodes.Kinds.{is_comment, is_newline}
 use Rattle.jsonc_sound.specs.Lines.{is_line_comment}
+use Rattle.jsonc_sound.specs.Shape.{IsTrivia}
 use Rattle.jsonc_sound.specs.Sound.{IsValueBefore}
 use Rattle.jsonc_tree.specs.OrderedTree.{Top}
 use Rattle.jsonc_sound.specs.TreeChanges.{leaves_of}
@@ -31,7 +33,7 @@ use Rattle.jsonc_sound.specs.MarkChanges.{AreBlanks, marks_under}
 use Rattle.jsonc_sound.specs.Marks.{marks, marks_of}
 use Rattle.jsonc_sound.proofs.ReplacedStretches.{marks_join, blanks_unmarked}
 use Rattle.jsonc_sound.specs.Coming as coming
-use Rattle.jsonc_sound.specs.Coming.{AreLineEnds, ends_in_comment, begins_in_line_end}
+use Rattle.jsonc_sound.specs.Coming.{AreLineEnds, has_text, ends_in_comment, begins_in_line_end}
 use Rattle.jsonc_sound.specs.EntryLaws.{root_with, SoundWithFirstValue, HasFirstValue, MarksWithFirstValue}
 use Rattle.jsonc_sound.proofs.RootRows.{trivia_passed, line_ends_trivia, joined_trivia, leaves_then_joined, lines_behind, root_lines, root_marks, loosened, root_alone, root_sound, behind_trivia, trivia_of, trivia_before, line_ends_of, leaves_led}
 
@@ -49,22 +51,29 @@ newline_serves : (a : Bool) (content : Content) (after : OrderedTree) → IsTrue
 newline_serves a (Content.newline k) after h = refl
 newline_serves a content after h = cc
 
-no_line_comment : (content : Content) → IsTrue (not (is_comment content)) → IsTrue (is_line_comment content) → ⊥
-no_line_comment (Content.comment s) h l = cc
-no_line_comment content h l = cc
+slash_begins : (n : Option ℕ) → IsTrue (starts (λ c. c == 0x2F) n) → starts (λ c. true) n ≡ true
+slash_begins None h = cc
+slash_begins (Some c) h = refl
+
+no_line_comment : (o : Options) (so_far : Bool) (content : Content) → IsTrivia o content → IsTrue (not (ends_in_comment so_far (content ∷ []))) → IsTrue (is_line_comment content) → ⊥
+no_line_comment o so_far (Content.comment s) t h l = let e = slash_begins (first_char (Content.comment s)) (comment_begins t.1.1) in cc
+no_line_comment o so_far content t h l = cc
 
 newlines_led : (cs : List Content) (rest : OrderedTree) → AreLineEnds cs → LinesEndLoosely false true rest → LinesEndLoosely false true (leaves_then cs rest)
 newlines_led [] rest h l = l
 newlines_led (c ∷ cs) rest h l = (λ k. absurd (newline_no_comment c h.0 k), tt, newlines_led cs rest h.1 l)
 
 -- behind trivia, where no comment stands last before it
-lines_led : (front before : List Content) (old rest : OrderedTree) → AreLineEnds before → IsTrue (not (ends_in_comment (front ++ before))) → LinesEndLoosely false true (leaves_then front old) → LinesEndLoosely false true rest
-    → LinesEndLoosely false true (leaves_then (front ++ before) rest)
-lines_led [] before old rest n h l m = newlines_led before rest n m
-lines_led (c ∷ []) [] old rest n h l m = (λ k. absurd (no_line_comment c h k), tt, m)
-lines_led (c ∷ []) (b ∷ before) old rest n h l m = (λ k. newline_serves true b (leaves_then before rest) n.0, tt, newlines_led (b ∷ before) rest n m)
-lines_led (c ∷ d ∷ front) before old rest n h l m =
-    (λ k. subst IsTrue (ends_by_first true true d (leaves_then front old) (leaves_then (front ++ before) rest)) (l.0 k), tt, lines_led (d ∷ front) before old rest n h l.2 m)
+lines_led : (o : Options) (so_far : Bool) (front before : List Content) (old rest : OrderedTree) → AreTriviaOf o front → AreLineEnds before → IsTrue (not (ends_in_comment so_far (front ++ before)))
+    → LinesEndLoosely false true (leaves_then front old) → LinesEndLoosely false true rest → LinesEndLoosely false true (leaves_then (front ++ before) rest)
+lines_led o so_far [] before old rest t n h l m = newlines_led before rest n m
+lines_led o so_far (c ∷ []) [] old rest t n h l m = (λ k. absurd (no_line_comment o so_far c t.0 h k), tt, m)
+lines_led o so_far (c ∷ []) (b ∷ before) old rest t n h l m = (λ k. newline_serves true b (leaves_then before rest) n.0, tt, newlines_led (b ∷ before) rest n m)
+lines_led o so_far (c ∷ d ∷ front) before old rest t n h l m = (
+  λ k. subst IsTrue (ends_by_first true true d (leaves_then front old) (leaves_then (front ++ before) rest)) (l.0 k),
+  tt,
+  lines_led o (cond (has_text c) (is_comment c) so_far) (d ∷ front) before old rest t.1 n h l.2 m,
+)
 
 -- a line's end ends each literal
 newline_ends : (k : CstNewlineKind) (n : Option ℕ) → Ends (or_else (first_char (Content.newline k)) n)
@@ -132,7 +141,7 @@ module _ (o : Options) where
       let node_ends = node_leaves top tail n.shaped (tail_ends (behind ++ back) starts) (tail_leaves behind back nh old.behind) in
       let node_lines : LinesEndLoosely false true node = (λ k. absurd (no_element top.content p (line_comment_over top.content k)), loosened top.content top.below n.lines, tail_lines front behind back nh old.whole) in
       root_sound o (leaves_then (front ++ before) node) (head_alone front before node old.before nb node_alone) (head_leaves front before node old.before nb node_ends)
-      (lines_led front before (leaves_then back none) node nb led old.whole node_lines)
+      (lines_led o false front before (leaves_then back none) node old.before nb led old.whole node_lines)
 
   -- the value
   no_value_led : (cs : List Content) (rest : OrderedTree) → AreTrivia cs → HasNoValue rest → HasNoValue (leaves_then cs rest)

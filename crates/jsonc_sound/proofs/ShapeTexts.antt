@@ -80,7 +80,7 @@ pub begins_line : (s : List ℕ) {t : List ℕ} → IsUtf8 s → chars s ≡ 0x2
 unfolding encode
 begins_line s {t} u e = subst (λ b. IsTrue (is_line_comment (Content.comment b))) (ap encode_utf8_all (sym e) ∙ encodes-chars s u) refl
 
-comment_before : (o : Options) (s t : List ℕ) → IsUtf8 s → IsComment (chars s) [] → (IsTrue (is_line_comment (Content.comment s)) → IsTrue (no is_in_line (next t))) → IsComment (chars s ++ t) t
+pub comment_before : (o : Options) (s t : List ℕ) → IsUtf8 s → IsComment (chars s) [] → (IsTrue (is_line_comment (Content.comment s)) → IsTrue (no is_in_line (next t))) → IsComment (chars s ++ t) t
 comment_before o s t u k ends = by (chars s) refl k
   where
     by : (x : List ℕ) → chars s ≡ x → IsComment x [] → IsComment (chars s ++ t) t

@@ -1,6 +1,6 @@
 //! Printing: the texts of the leaves in order.
 
-ghost use Rattle.std.specs.Prelude.{◌≡◌, ◌<◌, Some, length, vec_len};
+ghost use Rattle.std.specs.Prelude.{◌≡◌, ◌<◌, ◌++◌, Some, length, string_bytes, vec_len, IfOk, OnOk};
 ghost use Rattle.std.specs.Fmt.{WritesOnOk, WritesStyledOnOk};
 ghost use Rattle.jsonc_tree.specs.Content.{text_of};
 ghost use Rattle.jsonc_tree.specs.OrderedTree.{ordered_tree, printed};
@@ -9,7 +9,7 @@ ghost use Rattle.jsonc_tree.specs.Stored.{content_of, nodes_in, IsStored};
 use crate::node::{Kind, Node};
 use crate::tree::Tree;
 use crate::walk::{kind_of, node_after};
-use std::alloc::Allocator;
+use std::alloc::{AllocError, Allocator};
 use std::fmt;
 use std::marker::Model;
 
@@ -56,6 +56,53 @@ fn write_below<A: Allocator, W: fmt::Write>(
     Ok(())
 }
 
+// Appends what a node prints itself.
+#[inline(always)]
+fn push_own<A: Allocator, B: Allocator>(
+    kind: &Kind<A>,
+    out: &mut String<B>,
+) -> Result<(), AllocError>
+    ensures { OnOk result (string_bytes out.new ≡ string_bytes out.old ++ text_of (content_of kind.now)) }
+{
+    match kind {
+        Kind::Root(_) | Kind::Object(_) | Kind::Array(_) | Kind::Property(_) => Ok(()),
+        Kind::String(s) => out.push_str(s.as_str()),
+        Kind::Word(s) => out.push_str(s.as_str()),
+        Kind::Number(s) => out.push_str(s.as_str()),
+        Kind::Boolean(true) => out.push_str("true"),
+        Kind::Boolean(false) => out.push_str("false"),
+        Kind::Null => out.push_str("null"),
+        Kind::Token(c) => out.push(c.get()),
+        Kind::Whitespace(s) => out.push_str(s.as_str()),
+        Kind::Newline(kind) => out.push_str(kind.as_str()),
+        Kind::Comment(s) => out.push_str(s.as_str()),
+        Kind::StringPart(s) => out.push_str(s.as_str()),
+        Kind::WordPart(s) => out.push_str(s.as_str()),
+        Kind::NumberPart(s) => out.push_str(s.as_str()),
+        Kind::WhitespacePart(s) => out.push_str(s.as_str()),
+        Kind::CommentPart(s) => out.push_str(s.as_str()),
+    }
+}
+
+// What the leaves below `end` print.
+fn text_below<A: Allocator, B: Allocator>(
+    alloc: B,
+    nodes: &Vec<Node<A>, A>,
+    end: usize,
+) -> Result<String<B>, AllocError>
+    requires stored { IsStored nodes.now.items }
+    requires in_tree { end < vec_len nodes.now }
+    ensures { IfOk result (λ s. string_bytes s ≡ printed (ordered_tree (nodes_in nodes.now) end)) }
+{
+    let mut out = String::new(alloc);
+    let mut next = Some(end);
+    while let Some(n) = next {
+        push_own(kind_of(nodes, n), &mut out)?;
+        next = node_after(nodes, end, n);
+    }
+    Ok(out)
+}
+
 /// A node that prints itself and all below it.
 #[derive(Drop)]
 pub struct Shown<'a, A: Allocator> {
@@ -80,6 +127,13 @@ impl<'a, A: Allocator> Model for Shown<'a, A> {
 }
 
 impl<A: Allocator> Tree<A> {
+    /// What the document prints: the texts of its leaves, in order.
+    pub fn text<B: Allocator>(&self, alloc: B) -> Result<String<B>, AllocError>
+        ensures { IfOk result (λ s. string_bytes s ≡ printed (ordered_tree self.now.nodes 0)) }
+    {
+        text_below(alloc, &self.nodes, 0)
+    }
+
     /// A node to be printed with what is below it.
     pub fn shown(&self, node: usize) -> Shown<'_, A>
         requires { node < length self.now.nodes }

@@ -3,6 +3,7 @@
 use failing_alloc::Refusing;
 use failing_alloc::awaited::prints;
 use failing_alloc::outcome::Outcome;
+use jsonc_edit::Shape;
 use jsonc_layout::from_input::{Layout, lay_out};
 use jsonc_layout::input::CstInputValue;
 use jsonc_layout::input::spelling::spell;
@@ -122,12 +123,25 @@ fn some_object<A: Allocator + Copy>(alloc: A) -> Result<CstInputValue<A>, AllocE
 /// That object, written on its lines.
 const OBJECT: &str = "{\n\"first\": [true, \"a\\n\"],\n\"second\": null\n}";
 
+/// Whether an object as that one has its values under their names, and kinds of containers where they are.
+fn has_its_values<A: Allocator>(object: &CstInputValue<A>) -> bool {
+    let Some(first) = object.get("first") else {
+        return false;
+    };
+    matches!(object.get("second"), Some(CstInputValue::Null))
+        && object.get("third").is_none()
+        && first.get("first").is_none()
+        && object.shape() == Some(Shape::Object)
+        && first.shape() == Some(Shape::Array)
+}
+
 /// An object and its copy are as they were made, and equal.
 fn object<A: Allocator + Copy>(alloc: A) -> Outcome {
     match some_object(alloc) {
         Ok(object) => {
             let copy = is_made(alloc, object.try_clone(), OBJECT);
-            copy.then(Outcome::of_answer(is_laid_out(alloc, &object, OBJECT), &true))
+            copy.then(Outcome::of(has_its_values(&object)))
+                .then(Outcome::of_answer(is_laid_out(alloc, &object, OBJECT), &true))
                 .then(Outcome::of_answer(object.try_clone(), &object))
         }
         Err(error) => Outcome::from(error),

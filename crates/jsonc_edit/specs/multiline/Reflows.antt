@@ -1,9 +1,9 @@
 -- Rows of trees in which ends of lines come, and whitespace beside them leaves.
-use Rattle.std.specs.Prelude.{◌≡◌, ℕ, Bool, true, false, not, ◌&&◌, ◌||◌, List, IsTrue}
+use Rattle.std.specs.Prelude.{◌≡◌, ℕ, Bool, true, false, ◌||◌, List, IsTrue, if◌then◌else◌}
 use Rattle.jsonc_tree.specs.Content.{Content, whitespace, newline}
 use Rattle.jsonc_tree.specs.OrderedTree.{OrderedTree, none, more}
 use Rattle.jsonc_tree.specs.declared.node.CstNewlineKind.{CstNewlineKind}
-use Rattle.jsonc_layout.specs.nodes.Kinds.{is_comma, is_newline, is_whitespace}
+use Rattle.jsonc_layout.specs.nodes.Kinds.{is_comma, is_newline}
 use Rattle.jsonc_edit.specs.Writing.{IsIndent}
 
 -- the end of a line is first in the row
@@ -30,17 +30,34 @@ pub data SpreadsOut : OrderedTree → OrderedTree → Type 0 where
   stays : {row : OrderedTree} → IsTrue (has_newline row) → SpreadsOut row row
   reflows : {row new : OrderedTree} → has_newline row ≡ false → IsTrue (has_newline new) → Reflows row new → SpreadsOut row new
 
--- a line ends directly behind each comma of the row, and first in it where a part begins
-abbrev pub parts_begin_lines : (begins : Bool) → OrderedTree → Bool
-parts_begin_lines begins none = not begins
-parts_begin_lines true (more content below after) = is_newline content && parts_begin_lines false after
-parts_begin_lines false (more content below after) = parts_begin_lines (is_comma content) after
+-- Where a row on several lines goes on: a line has to end here; its indent stands here, and then what it begins; more of that; or the indent of the last bracket.
+pub data Spot : Type 0 where
+  begins : Spot
+  indent : Spot
+  part : Spot
+  closes : Spot
 
--- behind the last end of a line whitespace alone stands; `own`: so it does up to here
-abbrev pub ends_with_line : (own : Bool) → OrderedTree → Bool
-ends_with_line own none = own
-ends_with_line own (more content below after) = ends_with_line (is_newline content || (own && is_whitespace content)) after
+-- behind a comma a line has to end
+abbrev pub behind : Content → Spot
+behind content = if is_comma content then begins else part
+
+-- One line ends before each part of the row, which goes on through its comma, and none else in it. Behind the last part, if anything stands in it, one more ends, and
+-- behind that whitespace alone stands.
+abbrev pub goes_on_lines : Spot → OrderedTree → Bool
+goes_on_lines begins none = false
+goes_on_lines begins (more (newline k) below after) = goes_on_lines indent after
+goes_on_lines begins (more content below after) = false
+goes_on_lines indent none = true
+goes_on_lines indent (more (newline k) below after) = false
+goes_on_lines indent (more (whitespace s) below after) = goes_on_lines indent after
+goes_on_lines indent (more content below after) = goes_on_lines (behind content) after
+goes_on_lines part none = false
+goes_on_lines part (more (newline k) below after) = goes_on_lines closes after
+goes_on_lines part (more content below after) = goes_on_lines (behind content) after
+goes_on_lines closes none = true
+goes_on_lines closes (more (whitespace s) below after) = goes_on_lines closes after
+goes_on_lines closes (more content below after) = false
 
 -- each part of the row, through its comma, is on a line of its own, and so is the last bracket behind it
 abbrev pub is_on_lines : OrderedTree → Bool
-is_on_lines row = parts_begin_lines true row && ends_with_line false row
+is_on_lines row = goes_on_lines begins row

@@ -1,5 +1,5 @@
 -- The value of the root, where it is set: another is replaced by it, or it is the first.
-use Rattle.std.specs.Prelude.{◌≡◌, ◌≢◌, ◌≤◌, ◌<◌, ◌==◌, ℕ, zero, suc, Bool, false, List, [], ◌∷◌, ◌++◌, length, map, slice_index, Option, None, IfSome, if◌then◌else◌}
+use Rattle.std.specs.Prelude.{◌≡◌, ◌≢◌, ◌≤◌, ◌<◌, ◌==◌, ℕ, Bool, false, List, [], ◌∷◌, ◌++◌, length, map, reverse, take, Option, None, Some, IfSome, if◌then◌else◌}
 use Rattle.jsonc_text.specs.Plain.{Plain}
 use Rattle.jsonc_tree.specs.Changes.{CanJoin, Splices}
 use Rattle.jsonc_tree.specs.Content.{Content, newline}
@@ -7,7 +7,7 @@ use Rattle.jsonc_tree.specs.Tree.{Node, content_at, parent_at, children_at, IsTr
 use Rattle.jsonc_tree.specs.declared.node.CstNewlineKind.{CstNewlineKind}
 use Rattle.jsonc_layout.specs.nodes.Kinds.{is_comment_at}
 use Rattle.jsonc_layout.specs.lines.Breadth.{newline_kind_of}
-use Rattle.jsonc_edit.specs.Due.{listed}
+use Rattle.jsonc_edit.specs.Due.{listed, nearest}
 use Rattle.jsonc_edit.specs.Put.{Extends}
 use Rattle.jsonc_edit.specs.Changes.{top_at}
 use Rattle.jsonc_edit.specs.Comments.{newline_from}
@@ -18,10 +18,14 @@ use Rattle.jsonc_layout.specs.from_input.Laid.{laid}
 abbrev pub place_in : List Node → List ℕ → ℕ
 place_in ns row = newline_from ns row (length row)
 
--- a comment stands directly before this place of a row
+-- a comment is found
+abbrev pub is_comment_in : List Node → Option ℕ → Bool
+is_comment_in ns None = false
+is_comment_in ns (Some n) = is_comment_at ns n
+
+-- of what stands before this place of a row the nearest that prints something is a comment
 abbrev pub follows_comment : List Node → List ℕ → ℕ → Bool
-follows_comment ns row zero = false
-follows_comment ns row (suc place) = is_comment_at ns (slice_index row place)
+follows_comment ns row place = is_comment_in ns (nearest ns (reverse (take place row)))
 
 -- nothing stands behind it
 abbrev pub ends_row : List ℕ → ℕ → Bool
@@ -31,7 +35,7 @@ ends_row row place = place == length row
 abbrev pub first_place : List Node → ℕ
 first_place ns = place_in ns (children_at ns 0)
 
--- a newline is wanted before a first value: a comment stands directly before it
+-- a newline is wanted before a first value: it would stand directly behind a comment
 abbrev pub leads_in : List Node → Bool
 leads_in ns = follows_comment ns (children_at ns 0) (first_place ns)
 

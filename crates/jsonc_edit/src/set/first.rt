@@ -1,16 +1,17 @@
 //! A first value that comes into the root's row.
 
-ghost use Rattle.std.specs.Prelude.{◌≡◌, ◌++◌, ◌∷◌, IfErr, IfOk, OnErr, OnOk, length, ℕ};
+ghost use Rattle.std.specs.Prelude.{◌≡◌, ◌++◌, ◌∷◌, IfErr, IfOk, OnErr, OnOk, length, reverse, take, ℕ};
 ghost use Rattle.jsonc_tree.specs.Building.{Keeps};
 ghost use Rattle.jsonc_tree.specs.OrderedTree.{ordered_tree};
 ghost use Rattle.jsonc_tree.specs.Siblings.{CanFill, Fills, IsGap};
 ghost use Rattle.jsonc_tree.specs.Tree.{children_at};
 ghost use Rattle.jsonc_layout.specs.input.Views.{plain};
 ghost use Rattle.jsonc_layout.specs.nodes.Siblings.{IsThere};
-ghost use Rattle.jsonc_edit.specs.Due.{listed};
+ghost use Rattle.jsonc_edit.specs.Due.{listed, nearest};
 ghost use Rattle.jsonc_edit.specs.Put.{Extends};
 ghost use Rattle.jsonc_edit.specs.set.RootSet.{first_place, follows_comment, FirstValue, KeepsNodes, LineEndMade};
 
+use crate::due::{seen_before, seen_last};
 use crate::{EditError, layout_for};
 use jsonc_layout::from_input::lay_out;
 use jsonc_layout::input::CstInputValue;
@@ -28,7 +29,7 @@ struct Gap {
 // The gap that a first value comes into.
 fn first_gap<A: Allocator>(tree: &Tree<A>) -> Gap
     ensures gap { IsGap tree.now.nodes 0 (first_place tree.now.nodes) result.before result.behind }
-    ensures in_tree { IsThere tree.now.nodes result.before }
+    ensures in_tree { IsThere tree.now.nodes result.behind }
 {
     let Some(last) = tree.last_child(0) else {
         return Gap {
@@ -48,13 +49,26 @@ fn first_gap<A: Allocator>(tree: &Tree<A>) -> Gap
     }
 }
 
-// Whether a comment stands directly before a gap of the root's row.
+// The nearest node before a gap of the root's row that prints something.
+fn seen_before_gap<A: Allocator>(tree: &Tree<A>, gap: Gap) -> Option<usize>
+    requires { IsThere tree.now.nodes gap.behind }
+    ensures seen { (place : ℕ) → IsGap tree.now.nodes 0 place gap.before gap.behind
+        → result ≡ nearest tree.now.nodes (reverse (take place (children_at tree.now.nodes 0))) }
+    ensures in_tree { IsThere tree.now.nodes result }
+{
+    match gap.behind {
+        Some(node) => seen_before(tree, node),
+        None => seen_last(tree, 0),
+    }
+}
+
+// Whether that is a comment.
 fn follows_comment<A: Allocator>(tree: &Tree<A>, gap: Gap) -> bool
-    requires { IsThere tree.now.nodes gap.before }
+    requires { IsThere tree.now.nodes gap.behind }
     ensures { (place : ℕ) → IsGap tree.now.nodes 0 place gap.before gap.behind
         → result ≡ follows_comment tree.now.nodes (children_at tree.now.nodes 0) place }
 {
-    match gap.before {
+    match seen_before_gap(tree, gap) {
         Some(node) => is_comment(tree, node),
         None => false,
     }

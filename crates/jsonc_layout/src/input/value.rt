@@ -7,6 +7,7 @@ ghost use Rattle.jsonc_layout.specs.input.Views.{plain, items_plain, members_pla
 
 mod copies;
 mod depth;
+mod named;
 
 use std::alloc::{AllocError, Allocator};
 

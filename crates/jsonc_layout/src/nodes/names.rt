@@ -105,8 +105,9 @@ fn name_in<'a, A: Allocator, B: Allocator>(
     }
 }
 
-// A property's name, decoded, or none where it has none that decodes.
-fn name_read<'a, A: Allocator, B: Allocator>(
+/// A property's name with its escapes resolved, or none where it has no name that decodes. It is lent from the tree, and
+/// memory is wanted only for a name with a backslash.
+pub fn name_read<'a, A: Allocator, B: Allocator>(
     alloc: B,
     tree: &'a Tree<A>,
     property: usize,

@@ -16,6 +16,7 @@ pub mod RemovedEntries
 pub mod RootGone
 pub mod CommaTexts
 pub mod CommentTexts
+pub mod CommentEnds
 pub mod Insides
 pub mod Joined
 pub mod Arriving

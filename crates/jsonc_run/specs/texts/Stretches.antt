@@ -1,7 +1,8 @@
 -- Literals and comments of a document parted at a place, and stretches of text that edits speak of.
 use Rattle.std.specs.Prelude.{ℕ, ◌≡◌, Bool, not, ◌&&◌, List, [], ◌∷◌, ◌++◌, IsTrue}
+use Rattle.jsonc_text.specs.Options.{Options}
 use Rattle.jsonc_text.specs.Text.{Many, is_line_end}
-use Rattle.jsonc_text.specs.Gaps.{IsComment, is_blank}
+use Rattle.jsonc_text.specs.Gaps.{Gap, IsComment, is_blank}
 use Rattle.jsonc_text.specs.Spelling.{spelled}
 use Rattle.jsonc_text.specs.Marks.{Mark, MarksTo, literals_of}
 use Rattle.jsonc_text.specs.Documents.{Document}
@@ -18,9 +19,9 @@ pub data IsLineEnd : List ℕ → Type 0 where
 abbrev pub HasLine : List ℕ → Type 0
 HasLine s = (x line y : List ℕ) × (s ≡ x ++ (line ++ y)) × IsLineEnd line
 
--- a comment ends the text
-abbrev pub EndsInComment : List ℕ → Type 0
-EndsInComment s = (t comment : List ℕ) × (s ≡ t ++ comment) × IsComment comment []
+-- a comment ends the text, to which a gap leads from its front
+abbrev pub EndsInComment : Options → List ℕ → Type 0
+EndsInComment o s = (comment : List ℕ) × Gap o s comment × IsComment comment []
 
 abbrev pub AreBlanks : List ℕ → Type 0
 AreBlanks s = Many is_blank s []

@@ -193,7 +193,8 @@ module _ (o : Options) (old new : List Node) (path : List ℕ) (c : ℕ) (tree :
       row = standing old b.inner;
       new = row_in old slots;
       spreads = reflows (line_ends ∙ h) (row_newline old lines.newline (indent_if_any lines.outer) (flat_map (λ part. on_line lines (without_front old part)) (parts old (without_back old (between kids))))) row_now;
-      lines = λ e. row_on_lines old tree lines (indent_joined (indents_at old c).current (indents_at old c).single fits.0 fits.1) fits.0 (between kids);
+      lines = λ e. row_on_lines old tree lines (indent_joined (indents_at old c).current (indents_at old c).single fits.0 fits.1) fits.0 (between kids)
+          (ap (list_any (is_newline_at old)) inside ∙ sym (standing_newline old b.inner) ∙ e);
       changed = changed;
     }
 

@@ -1,5 +1,5 @@
 -- A row on several lines is the row, in which ends of lines have come and whitespace has left.
-use Rattle.std.proofs.Common.{◌≡◌, ◌∙◌, ℕ, zero, suc, ◌+◌, ◌-◌, ◌<◌, Bool, true, false, ◌&&◌, ◌||◌, List, [], ◌∷◌, ◌++◌, All, length, take, drop, IsTrue, refl, sym, ap, subst, arith, length-drop, get_or-drop}
+use Rattle.std.proofs.Common.{◌≡◌, ◌∙◌, ℕ, zero, suc, ◌+◌, ◌-◌, ◌<◌, Bool, true, false, ◌||◌, List, [], ◌∷◌, ◌++◌, All, length, take, drop, IsTrue, refl, sym, ap, subst, arith, length-drop, get_or-drop, if◌then◌else◌}
 use Rattle.std.specs.List.{flat_map, list_any, suffix_len}
 use Rattle.std.proofs.lemmas.List.{take-append-drop}
 use Rattle.std.proofs.lemmas.List.Elements.{All-from_get_or, All-head, All-tail, All-take}
@@ -8,13 +8,13 @@ use Rattle.jsonc_tree.specs.Content.{Content, is_container, newline}
 use Rattle.jsonc_tree.specs.OrderedTree.{OrderedTree, none, more, grown, plant}
 use Rattle.jsonc_tree.specs.Tree.{Node, content_at, children_at, IsTree}
 use Rattle.jsonc_tree.specs.declared.node.CstNewlineKind.{CstNewlineKind}
-use Rattle.jsonc_layout.specs.nodes.Kinds.{is_comma, is_newline, is_newline_at, is_whitespace, is_whitespace_at, is_comma_at}
+use Rattle.jsonc_layout.specs.nodes.Kinds.{is_newline, is_newline_at, is_whitespace, is_whitespace_at, is_comma_at}
 use Rattle.jsonc_edit.specs.Changes.{row_below}
 use Rattle.jsonc_edit.specs.Writing.{IsIndent}
 use Rattle.jsonc_edit.specs.multiline.Slots.{Slot, stays, comes, top_in, row_in}
 use Rattle.jsonc_edit.specs.multiline.Lines.{Lines, last_line, indent_if_any, on_line, on_lines, parts, without_back, without_front}
 use Rattle.jsonc_edit.specs.multiline.Plans.{child_slots, begins_behind}
-use Rattle.jsonc_edit.specs.multiline.Reflows.{starts_line, has_newline, parts_begin_lines, ends_with_line, is_on_lines, Reflows, ended, kept, gone, line, line_end}
+use Rattle.jsonc_edit.specs.multiline.Reflows.{starts_line, has_newline, Spot, behind, goes_on_lines, is_on_lines, Reflows, ended, kept, gone, line, line_end}
 use Rattle.jsonc_edit.proofs.lemmas.multiline.RowByNode.{woven, both_woven}
 use Rattle.jsonc_edit.proofs.LeafKinds.{blank_leaf}
 use Rattle.jsonc_edit.proofs.Lists.{suffix_passes}
@@ -40,6 +40,27 @@ row_newline ns k rest (slot ∷ front) = or_right (is_newline (top_in ns slot).c
 blank_gone : (content : Content) (below x y : OrderedTree) → is_whitespace content ≡ true → below ≡ none → IsTrue (starts_line y) → Reflows x y → Reflows (more content below x) y
 blank_gone (Content.whitespace s) below x y e f h r = subst (λ b. Reflows (more (Content.whitespace s) b x) y) (sym f) (gone h r)
 blank_gone content below x y e f h r = cc
+
+-- behind a node that is no end of a line
+indent_then : (content : Content) (below after : OrderedTree) → is_newline content ≡ false → is_whitespace content ≡ false → goes_on_lines Spot.indent (more content below after) ≡ goes_on_lines (behind content) after
+indent_then (newline k) below after e f = cc
+indent_then (Content.whitespace s) below after e f = cc
+indent_then content below after e f = refl
+
+part_then : (content : Content) (below after : OrderedTree) → is_newline content ≡ false → goes_on_lines Spot.part (more content below after) ≡ goes_on_lines (behind content) after
+part_then (newline k) below after e = cc
+part_then content below after e = refl
+
+both_false : (a b : Bool) → a || b ≡ false → (a ≡ false) × (b ≡ false)
+both_false true b e = cc
+both_false false b e = (refl, e)
+
+none_taken : (p : ℕ → Bool) (k : ℕ) (row : List ℕ) → list_any p row ≡ false → list_any p (take k row) ≡ false
+none_taken p zero row e = refl
+none_taken p (suc k) [] e = refl
+none_taken p (suc k) (n ∷ row) e =
+    let both = both_false (p n) (list_any p row) e in
+    ap (λ b. b || list_any p (take k row)) both.0 ∙ none_taken p k row both.1
 
 suffix_all : (p : ℕ → Bool) (row : List ℕ) → All (λ n. p n ≡ true) (drop (length row - suffix_len p row) row)
 suffix_all p row =
@@ -97,40 +118,41 @@ module _ (old : List Node) (tree : IsTree old) (lines : Lines) (inner : IsIndent
       (subst (λ (l : List Slot). Reflows (standing old (take k row ++ drop k row)) (Then l)) (sym (both_woven lines old (without_back old row)).0) all)
 
   -- each part begins a line, and so does the last bracket
-  last_begins : (begins : Bool) → parts_begin_lines begins (Then []) ≡ true
-  last_begins begins = by begins lines.outer
+  abbrev turn : Bool → Spot
+  turn begins = if begins then Spot.begins else Spot.part
+
+  last_closes : (begins : Bool) → goes_on_lines (turn begins) (Then []) ≡ true
+  last_closes begins = by begins lines.outer
     where
-      by : (begins : Bool) (s : List ℕ) → parts_begin_lines begins (row_in old (comes (newline lines.newline) ∷ indent_if_any s)) ≡ true
+      by : (begins : Bool) (s : List ℕ) → goes_on_lines (turn begins) (row_in old (comes (newline lines.newline) ∷ indent_if_any s)) ≡ true
       by true [] = refl
       by false [] = refl
       by true (c ∷ s) = refl
       by false (c ∷ s) = refl
 
-  woven_begins : (begins : Bool) (row : List ℕ) → parts_begin_lines begins (Then (woven lines old begins row)) ≡ true
-  woven_begins begins [] = last_begins begins
-  woven_begins begins (n ∷ row) = by begins (is_whitespace_at old n) (is_comma_at old n) refl (woven_begins true row) (woven_begins false row)
-    where
-      by : (begins blank comma : Bool) → is_comma (content_at old n) ≡ comma → parts_begin_lines true (Then (woven lines old true row)) ≡ true → parts_begin_lines false (Then (woven lines old false row)) ≡ true
-          → parts_begin_lines begins (Then (child_slots lines begins blank n ++ woven lines old (begins_behind begins blank comma) row)) ≡ true
-      by true true comma e t f = t
-      by true false true e t f = ap (λ b. parts_begin_lines b (Then (woven lines old true row))) e ∙ t
-      by true false false e t f = ap (λ b. parts_begin_lines b (Then (woven lines old false row))) e ∙ f
-      by false blank true e t f = ap (λ b. parts_begin_lines b (Then (woven lines old true row))) e ∙ t
-      by false blank false e t f = ap (λ b. parts_begin_lines b (Then (woven lines old false row))) e ∙ f
+  abbrev On : Bool → List ℕ → Type 0
+  On begins row = goes_on_lines (turn begins) (Then (woven lines old begins row)) ≡ true
 
-  last_ends : (own : Bool) (slots : List Slot) → ends_with_line own (Then slots) ≡ true
-  last_ends own [] = by lines.outer
+  woven_on_lines : (begins : Bool) (row : List ℕ) → list_any (is_newline_at old) row ≡ false → On begins row
+  woven_on_lines begins [] lacking = last_closes begins
+  woven_on_lines begins (n ∷ row) lacking =
+      by begins (is_whitespace_at old n) (is_comma_at old n) refl refl (woven_on_lines true row lacks.1) (woven_on_lines false row lacks.1)
     where
-      by : (s : List ℕ) → ends_with_line own (row_in old (comes (newline lines.newline) ∷ indent_if_any s)) ≡ true
-      by [] = refl
-      by (c ∷ s) = refl
-  last_ends own (slot ∷ slots) = last_ends (is_newline (top_in old slot).content || (own && is_whitespace (top_in old slot).content)) slots
+      lacks : (is_newline_at old n ≡ false) × (list_any (is_newline_at old) row ≡ false)
+      lacks = both_false (is_newline_at old n) (list_any (is_newline_at old) row) lacking
 
-  pub row_on_lines : (row : List ℕ) → IsTrue (is_on_lines (row_in old (on_lines lines old row)))
-  row_on_lines row =
-      let slots : List Slot = woven lines old true (without_back old row) in
-      let both : is_on_lines (Then slots) ≡ true = ap (λ b. b && ends_with_line false (Then slots)) (woven_begins true (without_back old row)) ∙ last_ends false slots in
-      subst (λ (l : List Slot). IsTrue (is_on_lines (Then l))) (sym (both_woven lines old (without_back old row)).0) both
+      by : (begins blank comma : Bool) → is_whitespace_at old n ≡ blank → is_comma_at old n ≡ comma → On true row → On false row
+          → goes_on_lines (turn begins) (Then (child_slots lines begins blank n ++ woven lines old (begins_behind begins blank comma) row)) ≡ true
+      by true true comma e f t u = t
+      by true false true e f t u = indent_then (content_at old n) (row_below old n) (Then (woven lines old true row)) lacks.0 e ∙ ap (λ b. goes_on_lines (turn b) (Then (woven lines old true row))) f ∙ t
+      by true false false e f t u = indent_then (content_at old n) (row_below old n) (Then (woven lines old false row)) lacks.0 e ∙ ap (λ b. goes_on_lines (turn b) (Then (woven lines old false row))) f ∙ u
+      by false blank true e f t u = part_then (content_at old n) (row_below old n) (Then (woven lines old true row)) lacks.0 ∙ ap (λ b. goes_on_lines (turn b) (Then (woven lines old true row))) f ∙ t
+      by false blank false e f t u = part_then (content_at old n) (row_below old n) (Then (woven lines old false row)) lacks.0 ∙ ap (λ b. goes_on_lines (turn b) (Then (woven lines old false row))) f ∙ u
+
+  pub row_on_lines : (row : List ℕ) → list_any (is_newline_at old) row ≡ false → IsTrue (is_on_lines (row_in old (on_lines lines old row)))
+  row_on_lines row lacking =
+      subst (λ (l : List Slot). IsTrue (is_on_lines (Then l))) (sym (both_woven lines old (without_back old row)).0)
+      (woven_on_lines true (without_back old row) (none_taken (is_newline_at old) (length row - suffix_len (is_whitespace_at old) row) row lacking))
 
 -- what a row on several lines is made of: children that are there, and leaves
 abbrev pub Fits : List Node → Slot → Type 0

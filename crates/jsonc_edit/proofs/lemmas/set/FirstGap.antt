@@ -1,18 +1,21 @@
 -- The gap of the root's row that a first value comes into.
-use Rattle.std.proofs.Common.{◌≡◌, ◌==◌, ℕ, zero, suc, Bool, true, false, not, cond, List, length, reverse, slice_get, slice_index, Option, Some, None, is_some, inl, inr, refl, sym, ap, subst, ◌∙◌, ◌<◌, arith}
+use Rattle.std.proofs.Common.{◌≡◌, ◌==◌, ℕ, suc, Bool, true, false, not, cond, List, length, reverse, slice_get, slice_index, take, Option, Some, None, is_some, inl, inr, sym, ap, subst, ◌∙◌, ◌<◌, arith}
 use Rattle.std.proofs.lemmas.Bool.{cases_lt, eq-eqb, ne_eqb}
-use Rattle.std.proofs.lemmas.Option.{get_or_from_slice_get, slice_get-get_or, slice_get_past}
+use Rattle.std.proofs.lemmas.List.{take_all}
+use Rattle.std.proofs.lemmas.Option.{slice_get-get_or, slice_get_past}
 use Rattle.jsonc_tree.specs.Building.{Keeps}
+use Rattle.jsonc_tree.specs.Order.{with_parent}
 use Rattle.jsonc_tree.specs.Siblings.{before, first, siblings_before, IsGap}
 use Rattle.jsonc_tree.specs.Tree.{Node, children_at, place_at, IsTree}
+use Rattle.jsonc_tree.proofs.Gaps.{at_named, at_placed}
 use Rattle.jsonc_tree.proofs.LinkSteps.{some_at}
 use Rattle.jsonc_tree.proofs.Order.{parent_there}
-use Rattle.jsonc_layout.specs.nodes.Kinds.{is_comment_at, is_newline_at}
-use Rattle.jsonc_layout.specs.nodes.Siblings.{IsThere}
+use Rattle.jsonc_layout.specs.nodes.Kinds.{is_newline_at}
 use Rattle.jsonc_edit.specs.Comments.{newline_from}
-use Rattle.jsonc_edit.specs.set.RootSet.{first_place, follows_comment}
+use Rattle.jsonc_edit.specs.Due.{nearest, seen_before, seen_last}
+use Rattle.jsonc_edit.specs.set.RootSet.{first_place}
 use Rattle.jsonc_edit.proofs.BlanksBefore.{newline_here}
-use Rattle.jsonc_edit.proofs.RowEnds.{before_is, before_some, last_back, last_is, previous_at}
+use Rattle.jsonc_edit.proofs.RowEnds.{before_some, last_back, last_is}
 use Rattle.jsonc_edit.proofs.SpacePlaces.{gap_before}
 
 turned : (a b : Bool) → a ≡ not b → b ≡ not a
@@ -68,19 +71,18 @@ module _ (ns : List Node) (tree : IsTree ns) where
         let gap : IsGap ns 0 (place_at ns n) o (Some n) = gap_before ns tree n 0 o (last_is ns tree 0 n last).0 said in
         subst (λ k. IsGap ns 0 k o (Some n)) (sym place) gap
 
-    pub previous_there : (o : Option ℕ) → o ≡ first (siblings_before ns n) → IsThere ns o
-    previous_there None said = tt
-    previous_there (Some m) said =
-        (parent_there ns tree m 0 (before_is ns tree 0 (place_at ns n) m (sym (previous_at ns tree 0 n (last_is ns tree 0 n last).0) ∙ sym said)).0).0
+  -- what stands before a gap, the nearest first
+  pub before_node : (n g : ℕ) (b : Option ℕ) → IsGap ns 0 g b (Some n) → seen_before ns n ≡ nearest ns (reverse (take g row))
+  before_node n g b gap =
+      let named = at_named ns tree 0 g n (sym gap.back) in
+      ap (nearest ns) (ap (λ o. reverse (take (place_at ns n) (with_parent o (children_at ns)))) named ∙ ap (λ k. reverse (take k row)) (at_placed ns tree 0 g n (sym gap.back)))
 
-  -- whether a comment stands before a gap
-  pub comment_before : (n g : ℕ) (a : Option ℕ) → IsGap ns 0 g (Some n) a → is_comment_at ns n ≡ follows_comment ns row g
-  comment_before n zero a gap = let wrong : Some n ≡ None = gap.front in cc
-  comment_before n (suc k) a gap = ap (is_comment_at ns) (sym (get_or_from_slice_get row k n 0 (sym gap.front)))
-
-  pub none_before : (g : ℕ) (a : Option ℕ) → IsGap ns 0 g None a → false ≡ follows_comment ns row g
-  none_before zero a gap = refl
-  none_before (suc k) a gap = absurd (some_at row k (omega (arith, gap.inside)) (sym gap.front))
+  pub before_end : (g : ℕ) (b : Option ℕ) → IsGap ns 0 g b None → seen_last ns 0 ≡ nearest ns (reverse (take g row))
+  before_end g b gap =
+      elim (cases_lt g (length row)) [
+        | inl lt ↦ absurd (some_at row g lt (sym gap.back))
+        | inr all ↦ ap (λ (l : List ℕ). nearest ns (reverse l)) (sym (take_all g row all))
+      ]
 
   -- whether nothing stands behind it
   pub none_behind : (g : ℕ) (b a : Option ℕ) (none : Bool) → is_some a ≡ not none → IsGap ns 0 g b a → none ≡ (g == length row)

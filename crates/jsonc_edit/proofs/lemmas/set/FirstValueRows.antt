@@ -1,5 +1,5 @@
 -- Where a first value has come, it has come among the rows of roots.
-use Rattle.std.proofs.Common.{◌≡◌, ℕ, zero, suc, ◌+◌, ◌<◌, ◌≤◌, Bool, false, List, [], ◌∷◌, ◌++◌, length, map, take, drop, slice_index, None, IsTrue, refl, sym, ap, subst, ◌∙◌, arith, length-append, length-take, length-drop, get_or-take, get_or-drop}
+use Rattle.std.proofs.Common.{◌≡◌, ℕ, zero, suc, ◌+◌, ◌<◌, Bool, false, List, [], ◌∷◌, ◌++◌, length, map, take, drop, slice_index, None, IsTrue, refl, sym, ap, subst, ◌∙◌, arith, length-append, length-take, length-drop, get_or-take, get_or-drop}
 use Rattle.std.specs.List.{find}
 use Rattle.std.proofs.Math.Seq.{get_or-append_seam}
 use Rattle.jsonc_text.specs.Options.{Options}
@@ -32,7 +32,7 @@ use Rattle.jsonc_edit.proofs.Splices.{respliced_row}
 use Rattle.jsonc_edit.proofs.ChangesUpward.{Shows-row_below, document_is}
 use Rattle.jsonc_edit.specs.set.RootSet.{first_place, leads_in, leads_out, line_end_if, FirstValue}
 use Rattle.jsonc_edit.specs.set.Laws.{ComesAmongRows}
-use Rattle.jsonc_edit.proofs.lemmas.set.FirstRow.{line_ends, led_apart, leads_so, ends_behind, ends_told, place_within, starts}
+use Rattle.jsonc_edit.proofs.lemmas.set.FirstRow.{line_ends, led_apart, leads_so, ends_behind, ends_told, starts}
 use Rattle.jsonc_edit.proofs.LeafKinds.{trivia_leaf, trivia_is}
 use Rattle.jsonc_edit.proofs.lemmas.commenting.Coming.{then_joined}
 use Rattle.jsonc_edit.proofs.Lists.{not_false}
@@ -176,14 +176,11 @@ module _ (old new : List Node) (v : Plain) (m : ℕ) (tree : IsTree old) (f : Fi
       Shows-unique old row (row_below old 0) (leaves_then (map (content_at old) row) none) (Shows-row_below old tree 0 tree.first) (leaf_row old tree row quiet)
       ∙ ap (λ cs. leaves_then cs none) (parted (content_at old) row place)
 
-  in_row : place ≤ length row
-  in_row = place_within old row (length row)
-
   comes : ValueInserted top (leaves_then (front ++ back) none) (leaves_then (front ++ before) (among [] top [] (leaves_then (behind ++ back) none)))
   comes =
       value_comes front back before behind quiet_front quiet_back (line_ends (leads_in old) (newline_kind_of old)) (line_ends (leads_out old) (newline_kind_of old))
-      (led_apart front (leads_in old) (newline_kind_of old) (ends_told old row place in_row)) (starts old row (newline_kind_of old))
-      (leads_so front (leads_in old) (newline_kind_of old) (ends_told old row place in_row)) (ends_behind old row (newline_kind_of old))
+      (led_apart front (leads_in old) (newline_kind_of old) (ends_told old row place quiet_front)) (starts old row (newline_kind_of old))
+      (leads_so front (leads_in old) (newline_kind_of old) (ends_told old row place quiet_front)) (ends_behind old row (newline_kind_of old))
 
   pub value_has_come : ValueInserted top (row_below old 0) (row_below new 0)
   value_has_come = subst (λ t. ValueInserted top t (row_below new 0)) (sym old_row) (subst (ValueInserted top (leaves_then (front ++ back) none)) (sym new_row) comes)

@@ -26,7 +26,8 @@ use Rattle.jsonc_sound.proofs.LooseLines.{leaf_then}
 use Rattle.jsonc_sound.proofs.ShapeTexts.{begins_line}
 use Rattle.jsonc_sound.proofs.ShapeValues.{comma_mark, mark_text}
 use Rattle.jsonc_edit.specs.multiline.Laws.{bracketed}
-use Rattle.jsonc_edit.specs.multiline.Reflows.{has_newline}
+use Rattle.jsonc_edit.specs.multiline.Reflows as reflows
+use Rattle.jsonc_edit.specs.multiline.Reflows.{has_newline, Reflows}
 use Rattle.jsonc_run.specs.texts.Paths.{Kind, an_array, an_object, closing, IsEntry}
 use Rattle.jsonc_run.specs.texts.Paths as places
 use Rattle.jsonc_run.specs.texts.Entering as entering
@@ -53,6 +54,29 @@ lacks_with_bracket : (row : OrderedTree) (c : ℕ) → has_newline row ≡ false
 lacks_with_bracket none c h = refl
 lacks_with_bracket (more (Content.newline k) below after) c h = let wrong : true ≡ false = h in cc
 lacks_with_bracket (more content below after) c h = lacks_with_bracket after c h
+
+-- and without line comments
+abbrev pub NoLineComments : OrderedTree → Type 0
+NoLineComments none = Unit {0}
+NoLineComments (more content below after) = (IsTrue (is_line_comment content) → ⊥) × NoLineComments after
+
+lacks_comments : (row : OrderedTree) → has_newline row ≡ false → LinesEndLoosely true false row → NoLineComments row
+lacks_comments none h l = tt
+lacks_comments (more content below after) h l =
+    let rest = lacks_behind content below after h in
+    (λ k. no_end after rest (l.0 k), lacks_comments after rest l.2)
+
+first_lacks : (first second : OrderedTree) → NoLineComments (followed_by first second) → NoLineComments first
+first_lacks none second h = tt
+first_lacks (more content below after) second h = (h.0, first_lacks after second h.1)
+
+-- none comes where ends of lines do
+pub still_lacks : {x y : OrderedTree} → Reflows x y → NoLineComments x → NoLineComments y
+still_lacks reflows.ended n = tt
+still_lacks (reflows.kept h) n = (n.0, still_lacks h n.1)
+still_lacks (reflows.gone e h) n = still_lacks h n.1
+still_lacks (reflows.line e h) n = (λ k. cc, (λ k. cc, still_lacks h n))
+still_lacks (reflows.line_end h) n = (λ k. cc, still_lacks h n)
 
 line_end_is : (c : ℕ) → IsTrue (is_line_end c) → (c ≡ 0x0A) ⊎ (c ≡ 0x0D)
 line_end_is c h = elim (or_cases (c == 0x0A) (c == 0x0D) h) [ inl k ↦ inl (test_eq c 0x0A k) | inr k ↦ inr (test_eq c 0x0D k) ]
@@ -197,6 +221,13 @@ module _ (o : Options) (kind : Kind) (z : List ℕ) where
 
   none_there : {c : ℕ} {t : List ℕ} → IsTrue (is_line_end c) → Spot (c ∷ t) → ⊥
   none_there {c} h s = elim (line_end_is c h) [ inl e ↦ none_at 0x0A e refl refl refl refl h (view s) | inr e ↦ none_at 0x0D e refl refl refl refl h (view s) ]
+
+-- the row of a container in which no line ends
+pub row_lacks_comments : (o : Options) (k : RowKind) (row : OrderedTree) {now : Top} {path : List ℕ} {t u : OrderedTree} → SoundTree o t → DocumentChanged (bracketed k row) now path t u → has_newline row ≡ false → NoLineComments row
+row_lacks_comments o k row s d h =
+    let bracket : OrderedTree = token_then (rows.closing k) none in
+    let read = row_reads o (text_of_leaves (back_of d)) k (at_the_place o s d).2 in
+    first_lacks row bracket (lacks_comments (followed_by row bracket) (lacks_with_bracket row (rows.closing k) h) read.1)
 
 -- a container in whose row no line ends
 pub lacks_line : (o : Options) (k : RowKind) (row : OrderedTree) {now : Top} {path : List ℕ} {t u : OrderedTree} → SoundTree o t → (d : DocumentChanged (bracketed k row) now path t u) → has_newline row ≡ false → (w : Option Plain)

@@ -41,7 +41,7 @@ use Rattle.jsonc_run.proofs.lemmas.promise.NoneLeft as gone
 use Rattle.jsonc_run.proofs.lemmas.promise.NoneLeft.{none_left, NoneLeft}
 use Rattle.jsonc_run.proofs.lemmas.promise.NoneMissing as missing
 use Rattle.jsonc_run.proofs.lemmas.promise.NoneMissing.{all_trailing, NoneMissing}
-use Rattle.jsonc_run.proofs.lemmas.promise.LacksLines.{lacks_line}
+use Rattle.jsonc_run.proofs.lemmas.promise.LacksLines.{lacks_line, row_lacks_comments, still_lacks}
 use Rattle.jsonc_run.proofs.lemmas.promise.LinesInside.{line_inside}
 use Rattle.jsonc_run.proofs.lemmas.promise.PartLines.{parts_on_lines}
 use Rattle.jsonc_sort.proofs.Same.{document_same}
@@ -144,7 +144,7 @@ spaces_leave o (space_leaves {c = c} {x = x} {y = y} q h) p u =
 lines_so : (o : Options) {t u : OrderedTree} {path : List ℕ} → SoundTree o t → SoundTree o u → (kind : RowKind) {row new : OrderedTree} → SpreadsOut row new → (has_newline row ≡ false → IsTrue (is_on_lines new)) → DocumentChanged (bracketed kind row) (bracketed kind new) path t u
     → (w : Option Plain) → ((printed_text u ≡ printed_text t) × HasLineEnd path (document_of o t w)) ⊎ ((HasLineEnd path (document_of o t w) → ⊥) × IsOnLines path (document_of o u w))
 lines_so o s r kind {row} (reflows.stays h) f d w = inl (ap printed_text (sym (document_same refl d)), line_inside o kind row s d h w)
-lines_so o s r kind {row} {new} (reflows.reflows e h k) f d w = inr (lacks_line o kind row s d e w, parts_on_lines o kind row new r d (f e) w)
+lines_so o s r kind {row} {new} (reflows.reflows e h k) f d w = inr (lacks_line o kind row s d e w, parts_on_lines o kind row new r d (f e) (still_lacks k (row_lacks_comments o kind row s d e)) w)
 
 pub multiline_made : (o : Options) (t u : OrderedTree) (w x : Option Plain) (path : List ℕ) → SoundTree o t → SoundTree o u → IsChanged w (texts.ensure_multiline path) x → tree_marks.marks u ≡ tree_marks.marks t → SpreadAt path t u
     → Makes (document_of o t w) (texts.ensure_multiline path) (document_of o u x)

@@ -58,7 +58,7 @@ module _ (o : Options) where
   property_begins : {name t r : List ℕ} {v : Plain} → IsProperty o t name v r → IsTrue (starts begins_item (next t))
   property_begins (named n g h v) = name_begins o n
 
-  entry_starts : (kind : Kind) (t r : List ℕ) → IsEntry o kind t r → IsTrue (starts begins_item (next t))
+  pub entry_starts : (kind : Kind) (t r : List ℕ) → IsEntry o kind t r → IsTrue (starts begins_item (next t))
   entry_starts an_array t r (v, h) = value_begins o h
   entry_starts an_object t r (name, v, h) = property_begins h
 

@@ -1,10 +1,11 @@
 -- Where a value comes into a document that had none, in a text; and where all leaves it.
-use Rattle.std.proofs.Common.{ℕ, ◌≡◌, ◌∙◌, sym, ap, subst, refl, inl, inr, ◌⊎◌, List, [], ◌∷◌, ◌++◌, Option, Some, None, IsTrue, chars}
+use Rattle.std.proofs.Common.{◌≡◌, ◌∙◌, sym, ap, subst, refl, inl, inr, ◌⊎◌, false, true, not, List, [], ◌∷◌, ◌++◌, Option, Some, None, IsTrue}
 use Rattle.std.proofs.lemmas.List.{append_assoc, append-nil}
 use Rattle.std.proofs.lemmas.Str.{chars-nil}
 use Rattle.jsonc_text.specs.Options.{Options}
+use Rattle.jsonc_text.proofs.Basics.{clash}
 use Rattle.jsonc_text.specs.Plain.{Plain}
-use Rattle.jsonc_tree.specs.Content.{Content, comment, newline}
+use Rattle.jsonc_tree.specs.Content.{Content, newline}
 use Rattle.jsonc_sound.proofs.NodesAlone.{document_alone}
 use Rattle.jsonc_sound.proofs.Pieces.{Pieces, document_pieces}
 use Rattle.jsonc_tree.specs.OrderedTree.{OrderedTree, none, more, leaves, Top}
@@ -22,7 +23,9 @@ use Rattle.jsonc_sound.proofs.ReplacedStretches.{blanks_unmarked}
 use Rattle.jsonc_text.specs.Marks.{literals_of}
 use Rattle.jsonc_sound.specs.SoundTrees.{SoundTree}
 use Rattle.jsonc_sound.specs.TreeChanges.{IsElement, leaves_of}
-use Rattle.jsonc_sound.specs.TriviaChanges.{AreTrivia, leaves_then}
+use Rattle.jsonc_sound.specs.TriviaChanges.{AreTrivia, AreTriviaOf, leaves_then}
+use Rattle.jsonc_sound.specs.Lines.{LinesEndLoosely}
+use Rattle.jsonc_sound.specs.Alone.{RootAlone}
 use Rattle.jsonc_sound.proofs.FirstNodes.{value_of_element}
 use Rattle.jsonc_sound.proofs.FirstValue.{has_first}
 use Rattle.jsonc_sound.proofs.Texts.{AllUtf8}
@@ -39,9 +42,10 @@ use Rattle.jsonc_run.specs.promise.PlaceLaws.{text_of_leaves}
 use Rattle.jsonc_run.proofs.lemmas.promise.Leaves.{text_joined, utf8_first, utf8_second}
 use Rattle.jsonc_sound.specs.Documents.{all_marks}
 use Rattle.jsonc_sound.specs.Documents.{document_of}
-use Rattle.jsonc_sound.proofs.RootRows.{joined_trivia}
+use Rattle.jsonc_sound.proofs.RootRows.{joined_trivia, leaves_then_joined, root_alone, root_lines, trivia_of}
 use Rattle.jsonc_run.proofs.lemmas.promise.Stretches.{pieces_first, pieces_second, blanks_behind_unmarked, laid_literals, marks_in, marks_in_both, parted, parted_as}
-use Rattle.jsonc_run.proofs.lemmas.promise.Trivia.{first_text, line_end_text, piece_trivia}
+use Rattle.jsonc_run.proofs.lemmas.promise.Trivia.{line_end_text}
+use Rattle.jsonc_run.proofs.lemmas.promise.CommentEnds.{comment_ends, comment_last}
 use Rattle.jsonc_run.proofs.lemmas.promise.LaidTexts.{is_laid}
 use Rattle.jsonc_run.proofs.lemmas.promise.Replacing.{Printed, printed}
 
@@ -68,35 +72,15 @@ one_end : (behind back : List Content) → EndsLine behind back → ((text_of_le
 one_end _ _ (comes_with {k = k}) = (inr chars-nil, subst IsLineEnd (sym (ap (λ l. text_of_leaves (newline k ∷ []) ++ l) chars-nil ∙ append-nil (text_of_leaves (newline k ∷ [])))) (line_end_text k))
 one_end _ _ (stood_last {k = k}) = (inl chars-nil, subst (λ l. IsLineEnd (l ++ text_of_leaves (newline k ∷ []))) (sym chars-nil) (line_end_text k))
 
--- leaves whose last is a comment
-record LastComment (ls : List Content) : Type 0 where
-  init : List Content
-  last : List ℕ
-  parts : ls ≡ init ++ comment last ∷ []
-
-last_comment : (ls : List Content) → IsTrue (ends_in_comment ls) → LastComment ls
-last_comment [] h = cc
-last_comment (comment s ∷ []) h = record { init = []; last = s; parts = refl }
-last_comment (c ∷ []) h = cc
-last_comment (c ∷ d ∷ ls) h = let m = last_comment (d ∷ ls) h in record { init = c ∷ m.init; last = m.last; parts = ap (λ l. c ∷ l) m.parts }
-
 module _ (o : Options) (top : Top) (v : Plain) where
-  led_by : (front before : List Content) → Leads front before → Pieces o front → AllUtf8 front → (text_of_leaves before ≡ []) ⊎ (IsLineEnd (text_of_leaves before) × EndsInComment (text_of_leaves front))
-  led_by front _ at_once p u = inl chars-nil
-  led_by front _ (behind_comment {k = k} h) p u =
-      let m = last_comment front h in
-      let q = (pieces_second o m.init (comment m.last ∷ []) (subst (Pieces o) m.parts p)).0 in
-      let is = piece_trivia o (comment m.last) refl q in
-      let one : text_of_leaves (comment m.last ∷ []) ≡ chars m.last = first_text (comment m.last) [] is.1.0 ∙ ap (λ l. chars m.last ++ l) chars-nil ∙ append-nil (chars m.last) in
-      inr (
-        line_end_text k,
-        (
-          text_of_leaves m.init,
-          chars m.last,
-          ap text_of_leaves m.parts ∙ text_joined m.init (comment m.last ∷ []) (utf8_first m.init (comment m.last ∷ []) (subst AllUtf8 m.parts u)) ∙ ap (λ l. text_of_leaves m.init ++ l) one,
-          is.1.1,
-        ),
-      )
+  led_by : (front before : List Content) (old : OrderedTree) → Leads front before → IsTrue (not (ends_in_comment false (front ++ before))) → AreTriviaOf o front → LinesEndLoosely false true (leaves_then front old)
+      → ((text_of_leaves before ≡ []) × (EndsInComment o (text_of_leaves front) → ⊥)) ⊎ (IsLineEnd (text_of_leaves before) × EndsInComment o (text_of_leaves front))
+  led_by front _ old at_once quiet t l = inl (chars-nil, λ e. clash (ends_in_comment false front) (subst (λ ls. IsTrue (not (ends_in_comment false ls))) (append-nil front) quiet) (comment_last o old false front t l e))
+  led_by front _ old (behind_comment {k = k} h) quiet t l =
+      elim (comment_ends o old false front t l h) [
+        | inl e ↦ inr (line_end_text k, e)
+        | inr n ↦ (let wrong : false ≡ true = n.0 in cc)
+      ]
 
   -- a value has come into the row of a root that had none
   first_come : {row next : OrderedTree} → ValueInserted top row next → IsElement top.content → SoundTree o (root_with row) → SoundTree o (root_with next) → (w x : Option Plain) → w ≡ None → x ≡ Some v
@@ -122,7 +106,6 @@ module _ (o : Options) (top : Top) (v : Plain) where
       p.text ∙ ap (λ l. l ++ (text_of_leaves own ++ text_of_leaves (behind ++ back))) t_front ∙ ap (λ l. (text_of_leaves front ++ text_of_leaves before) ++ (text_of_leaves own ++ l)) t_back
       ∙ append_assoc (text_of_leaves front) (text_of_leaves before) (text_of_leaves own ++ (text_of_leaves behind ++ text_of_leaves back)) in
       let all_pieces : Pieces o ((front ++ before) ++ (own ++ (behind ++ back))) = subst (Pieces o) p.whole (document_pieces o (document_alone o r.shaped)) in
-      let pieces : Pieces o front = pieces_first o front before (pieces_first o (front ++ before) (own ++ (behind ++ back)) all_pieces) in
       let own_pieces : Pieces o own = pieces_first o own (behind ++ back) (pieces_second o (front ++ before) (own ++ (behind ++ back)) all_pieces) in
       let own_utf8 : AllUtf8 own = utf8_first own (behind ++ back) (utf8_second (front ++ before) (own ++ (behind ++ back)) p.utf8) in
       let ended = one_end behind back ends in
@@ -137,7 +120,8 @@ module _ (o : Options) (top : Top) (v : Plain) where
         text_of_leaves back,
         first,
         second,
-        led_by front before leads pieces (utf8_first front before u_front),
+        led_by front before (leaves_then back none) leads quiet (trivia_of o front (leaves_then back none) ft (subst (RootAlone o false) (leaves_then_joined front back none) (root_alone o row s)))
+            (subst (LinesEndLoosely false true) (leaves_then_joined front back none) (root_lines s.lines)),
         ended.0,
         ended.1,
         laid_so own_pieces own_utf8,
