@@ -51,6 +51,7 @@ pub mod SeamsAround
 pub mod CommentsBefore
 pub mod RowAhead
 pub mod SeamsOfComments
+pub mod BeforeComments
 pub mod PathsKept
 pub mod SeamsParting
 pub mod SeamsOfEntries

@@ -146,7 +146,7 @@ module _ (ns : List Node) (tree : IsTree ns) where
               ]
         ]
 
-    between_trivia : (at : ℕ) → from ≤ at → at < place → IsTrue (is_trivia_at ns (slice_index cs at))
+    pub between_trivia : (at : ℕ) → from ≤ at → at < place → IsTrue (is_trivia_at ns (slice_index cs at))
     between_trivia at a b = gap_trivia (content_at ns (slice_index cs at)) (between_gap at a b)
 
     abbrev gone : List ℕ

@@ -1,5 +1,5 @@
 -- Where a comment leaves, a space has come where it stood, or none.
-use Rattle.std.proofs.Common.{◌≡◌, ℕ, ◌+◌, ◌-◌, ◌<◌, ◌≤◌, ◌&&◌, true, false, cond, List, [], ◌∷◌, ◌++◌, length, map, take, drop, slice_index, slice_range, Option, Some, None, refl, sym, ap, subst, ◌∙◌, arith, length-take, get_or-take, length-drop, get_or-drop, IsTrue}
+use Rattle.std.proofs.Common.{◌≡◌, ℕ, ◌+◌, ◌-◌, ◌<◌, ◌≤◌, ◌&&◌, Bool, true, false, cond, List, [], ◌∷◌, ◌++◌, length, map, take, drop, slice_index, slice_range, Option, Some, None, refl, sym, ap, subst, ◌∙◌, arith, length-take, get_or-take, length-drop, get_or-drop, IsTrue}
 use Rattle.std.specs.List.{slice_get}
 use Rattle.std.proofs.lemmas.List.{append-nil, append_assoc, append_cancel_right, drop-take, take-append-drop, take-take}
 use Rattle.jsonc_text.specs.Options.{Options}
@@ -12,6 +12,7 @@ use Rattle.jsonc_tree.proofs.OrderedTrees.{Shows-unique, leaves-followed_by}
 use Rattle.jsonc_tree.proofs.Rows.{Shows-append, Shows-part}
 use Rattle.jsonc_sound.specs.MarkChanges.{AreBlanks}
 use Rattle.jsonc_sound.specs.Adjacent.{last_printed}
+use Rattle.jsonc_sound.specs.Lines.{is_line_comment}
 use Rattle.jsonc_sound.specs.Marks.{comments_of, marks_of}
 use Rattle.jsonc_sound.specs.SoundTrees.{SoundTree}
 use Rattle.jsonc_sound.specs.Spaces.{first_printed, is_bare_leaf}
@@ -28,11 +29,12 @@ use Rattle.jsonc_edit.specs.Due.{begins_bare, ends_bare, listed, prints_within, 
 use Rattle.jsonc_edit.specs.Put.{AreSpaced}
 use Rattle.jsonc_layout.specs.nodes.Kinds.{is_comment}
 use Rattle.jsonc_edit.proofs.ChangesUpward.{ChangedIn, Shows-row_below, apart_kept}
-use Rattle.jsonc_edit.specs.SeamLaws.{comments_before, LosesWithSeam}
+use Rattle.jsonc_edit.specs.SeamLaws.{comments_before, BlanksRemoved, LosesWithSeam}
 use Rattle.jsonc_edit.specs.Seams.{space_if, is_space_needed_between, StandsBetween, as_child}
 use Rattle.jsonc_edit.proofs.RowAhead.{row_stays}
 use Rattle.jsonc_edit.proofs.SeamsParting.{tells_what_is_printed}
 use Rattle.jsonc_edit.proofs.SeamsAround.{blank_row, leaf_alone, leaves_around, holds_children, stands_somewhere}
+use Rattle.jsonc_edit.proofs.BeforeComments.{blanks_removed}
 use Rattle.jsonc_edit.proofs.CommentOrder.{making_keeps_comments}
 use Rattle.jsonc_edit.proofs.CommentsBefore.{comments_stand_before}
 use Rattle.jsonc_edit.proofs.LeavesAroundNodes.{between_above, space_stands_between, within}
@@ -142,6 +144,12 @@ module _ (ns : List Node) (tree : IsTree ns) (n c : ℕ) (said : parent_at ns n 
     back : List Content
     before : f ≡ front ++ map (content_at ns) (slice_range (children_at ns c) (removed_from ns c n) (place_at ns n))
     stands : StandsBetween ns (slice_index (children_at ns c) (removed_from ns c n)) front back
+    ahead : List Content
+    behind : List Content
+    first : OrderedTree
+    up : StandsBetween ns c ahead behind
+    shows : Shows ns (take (removed_from ns c n) (children_at ns c)) first
+    is : front ≡ ahead ++ leaves first
 
   first_gone : (f b : List Content) → StandsBetween ns n f b → FirstGone f
   first_gone f b s =
@@ -166,6 +174,12 @@ module _ (ns : List Node) (tree : IsTree ns) (n c : ℕ) (said : parent_at ns n 
         before =
             w.first ∙ ap (λ l. w.g ++ l) (ap leaves two.2 ∙ leaves-followed_by two.0 two.1) ∙ sym (append_assoc w.g (leaves two.0) (leaves two.1)) ∙ ap (λ l. (w.g ++ leaves two.0) ++ l) shown;
         stands = as_child (tree.named c i inn) w.up (subst (λ k. Shows ns (take k row) two.0) (sym at) first) (subst (λ k. Shows ns (drop (k + 1) row) whole.1) (sym at) whole.4);
+        ahead = w.g;
+        behind = w.d;
+        first = two.0;
+        up = w.up;
+        shows = first;
+        is = refl;
       }
 
 -- those blanks are the same where the space has come that is due behind the comment
@@ -187,19 +201,42 @@ module _ (ready spaced : List Node) (tree : IsTree ready) (n c : ℕ) (said : pa
       (ap (λ k. map (content_at now) (slice_range (children_at now c) k (place_at now n))) s.removed ∙ ap (λ k. map (content_at now) (slice_range (children_at now c) i k)) s.place
       ∙ ap (map (content_at now)) rows ∙ contents_same (content_at now) (content_at ready) (λ k. r.put.content k) (slice_range (children_at ready c) i place))
 
-  -- in a sound document that space parts two literals without quotes
-  space_parts : (o : Options) → SoundTree o (ordered_tree ready 0) → (f b front : List Content) → StandsBetween ready n f b → f ≡ front ++ gone_blanks spaced
-      → AreSpaced ready (listed (space_needed_without ready c n)) spaced → is_space_needed_between ready (slice_index (children_at ready c) (removed_from ready c n)) n ≡ true
-      → (is_bare_leaf (last_printed front) ≡ true) × (is_bare_leaf (first_printed b) ≡ true)
-  space_parts o sound f b front s before put due =
+  blanks_kept : (due : Bool) → is_space_needed_between ready (slice_index (children_at ready c) (removed_from ready c n)) n ≡ due → AreSpaced ready (listed (space_needed_without ready c n)) spaced → gone_blanks spaced ≡ gone_blanks ready
+  blanks_kept true due put =
       let from : ℕ = slice_index (children_at ready c) (removed_from ready c n) in
-      let bare = both_true (ends_bare ready (seen_before ready from)) (begins_bare ready (seen_behind ready n)) (both_true (prints_within ready from n) (ends_bare ready (seen_before ready from) && begins_bare ready (seen_behind ready n)) due).1 in
+      let bare = (both_true (ends_bare ready (seen_before ready from)) (begins_bare ready (seen_behind ready n)) (both_true (prints_within ready from n) (ends_bare ready (seen_before ready from) && begins_bare ready (seen_behind ready n)) due).1).1 in
       let is : space_needed_without ready c n ≡ seen_behind ready n = ap (λ d. cond d (seen_behind ready n) None) due in
-      let blanks : gone_blanks spaced ≡ gone_blanks ready = blanks_same (seen_behind ready n) refl bare.1 (subst (λ o. AreSpaced ready (listed o) spaced) is put) in
-      let g = first_gone ready tree n c said f b s in
-      let fronts : front ≡ g.front = append_cancel_right front g.front (gone_blanks ready) (sym (before ∙ ap (λ l. front ++ l) blanks) ∙ g.before) in
-      let first = (tells_what_is_printed o ready from tree sound g.front g.back g.stands).0 bare.0 in
-      (ap (λ l. is_bare_leaf (last_printed l)) fronts ∙ first, (tells_what_is_printed o ready n tree sound f b s).1 bare.1)
+      blanks_same (seen_behind ready n) refl bare (subst (λ o. AreSpaced ready (listed o) spaced) is put)
+  blanks_kept false due put =
+      let is : space_needed_without ready c n ≡ None = ap (λ d. cond d (seen_behind ready n) None) due in
+      let same : spaced ≡ ready = subst (λ o. AreSpaced ready (listed o) spaced) is put in
+      ap gone_blanks same
+
+  module _ (f b front : List Content) (s : StandsBetween ready n f b) (before : f ≡ front ++ gone_blanks spaced) (put : AreSpaced ready (listed (space_needed_without ready c n)) spaced) where
+    blanks : gone_blanks spaced ≡ gone_blanks ready
+    blanks = blanks_kept (is_space_needed_between ready (slice_index (children_at ready c) (removed_from ready c n)) n) refl put
+
+    fronts : front ≡ (first_gone ready tree n c said f b s).front
+    fronts =
+        let g = first_gone ready tree n c said f b s in
+        append_cancel_right front g.front (gone_blanks ready) (sym (before ∙ ap (λ l. front ++ l) blanks) ∙ g.before)
+
+    -- in a sound document that space parts two literals without quotes
+    space_parts : (o : Options) → SoundTree o (ordered_tree ready 0) → is_space_needed_between ready (slice_index (children_at ready c) (removed_from ready c n)) n ≡ true
+        → (is_bare_leaf (last_printed front) ≡ true) × (is_bare_leaf (first_printed b) ≡ true)
+    space_parts o sound due =
+        let from : ℕ = slice_index (children_at ready c) (removed_from ready c n) in
+        let bare = both_true (ends_bare ready (seen_before ready from)) (begins_bare ready (seen_behind ready n)) (both_true (prints_within ready from n) (ends_bare ready (seen_before ready from) && begins_bare ready (seen_behind ready n)) due).1 in
+        let g = first_gone ready tree n c said f b s in
+        let first = (tells_what_is_printed o ready from tree sound g.front g.back g.stands).0 bare.0 in
+        (ap (λ l. is_bare_leaf (last_printed l)) fronts ∙ first, (tells_what_is_printed o ready n tree sound f b s).1 bare.1)
+
+    -- and the blanks are those of the comment
+    blanks_so : (o : Options) → SoundTree o (ordered_tree ready 0) → IsTrue (is_comment (content_at ready n)) → BlanksRemoved front (is_line_comment (content_at ready n)) (gone_blanks spaced)
+    blanks_so o sound is_one =
+        let g = first_gone ready tree n c said f b s in
+        let own = blanks_removed ready tree n c said is_one o sound g.ahead g.behind g.up g.front g.first g.shows g.is in
+        subst (λ l. BlanksRemoved l (is_line_comment (content_at ready n)) (gone_blanks spaced)) (sym fronts) (subst (BlanksRemoved g.front (is_line_comment (content_at ready n))) (sym blanks) own)
 
 -- a comment that was taken out
 module _ (old new : List Node) (n : ℕ) (r : CommentTaken old new n) where
@@ -236,9 +273,14 @@ module _ (old new : List Node) (n : ℕ) (r : CommentTaken old new n) where
         behind = is_space_needed_between taken.ready from n;
         are_blanks = left.are_blanks;
         silent = seam.3;
+        blanks_are = λ o sound.
+            let sound_ready : SoundTree o (ordered_tree taken.ready 0) = subst (SoundTree o) (sym (tree_stays old taken.ready r.tree keeps taken.prepared.tree)) sound in
+            let so = blanks_so taken.ready taken.spaced taken.prepared.tree n c (keeps.parent n there ∙ r.parent) f b left.front place.2 (left.before ∙ ap (λ l. left.front ++ l) are) taken.spaces o sound_ready
+            (subst (λ k. IsTrue (is_comment k)) (sym was) refl) in
+            subst (λ k. BlanksRemoved left.front (is_line_comment k) left.blanks) was (subst (BlanksRemoved left.front (is_line_comment (content_at taken.ready n))) (sym are) so);
         parts = λ o sound due.
             let sound_ready : SoundTree o (ordered_tree taken.ready 0) = subst (SoundTree o) (sym (tree_stays old taken.ready r.tree keeps taken.prepared.tree)) sound in
-            let told = space_parts taken.ready taken.spaced taken.prepared.tree n c (keeps.parent n there ∙ r.parent) o sound_ready f b left.front place.2 (left.before ∙ ap (λ l. left.front ++ l) are) taken.spaces due in
+            let told = space_parts taken.ready taken.spaced taken.prepared.tree n c (keeps.parent n there ∙ r.parent) f b left.front place.2 (left.before ∙ ap (λ l. left.front ++ l) are) taken.spaces o sound_ready due in
             (told.0, ap (λ l. is_bare_leaf (first_printed l)) (sym seam.2) ∙ told.1);
         before =
             ap leaves (sym (tree_stays old taken.ready r.tree keeps taken.prepared.tree)) ∙ leaves_around taken.ready taken.prepared.tree n f b place.2

@@ -24,10 +24,10 @@ use Rattle.jsonc_edit.proofs.SeamsAround.{row_around}
 use Rattle.jsonc_edit.proofs.LeavesAroundNodes as between
 
 -- a row somewhere in a row
-record Somewhere (x t : OrderedTree) : Type 0 where
-  front : List Content
-  back : List Content
-  within : Within x front back t
+pub record Somewhere (x t : OrderedTree) : Type 0 where
+  pub front : List Content
+  pub back : List Content
+  pub within : Within x front back t
 
 here_in : (content : Content) (x after : OrderedTree) → Somewhere x (more content x after)
 here_in content x after = record { front = own_leaf content; back = leaves after; within = here }
@@ -55,7 +55,7 @@ none_first ns (suc k) = refl
 
 module _ (ns : List Node) (tree : IsTree ns) where
   -- the row below a node of the document is a row of its tree
-  row_somewhere : (n : ℕ) (f b : List Content) → StandsBetween ns n f b → Somewhere (row_below ns n) (ordered_tree ns 0)
+  pub row_somewhere : (n : ℕ) (f b : List Content) → StandsBetween ns n f b → Somewhere (row_below ns n) (ordered_tree ns 0)
   row_somewhere _ _ _ as_root = subst (Somewhere (row_below ns 0)) (document_is ns tree (row_below ns 0) (Shows-row_below ns tree 0 tree.first)) (here_in root (row_below ns 0) none)
   row_somewhere n _ _ (as_child {c = c} {f = f} {b = b} {front = front} {back = back} said up fr bk) =
       let inside : Somewhere (row_below ns n) (row_below ns c) = subst (Somewhere (row_below ns n)) (sym (row_around ns tree n c front back said fr bk)) (past front (here_in (content_at ns n) (row_below ns n) back)) in
@@ -64,10 +64,10 @@ module _ (ns : List Node) (tree : IsTree ns) where
   module _ (o : Options) (sound : SoundTree o (ordered_tree ns 0)) where
     -- the rows beside a node are whole
     module _ (n c : ℕ) (f b : List Content) (said : parent_at ns n ≡ Some c) (s : StandsBetween ns n f b) where
-      w : between.Within ns n c f b
+      abbrev pub w : between.Within ns n c f b
       w = between.within ns tree n c f b said s
 
-      row_whole : Whole o (followed_by w.front (more (content_at ns n) (row_below ns n) w.back))
+      pub row_whole : Whole o (followed_by w.front (more (content_at ns n) (row_below ns n) w.back))
       row_whole = subst (Whole o) (row_around ns tree n c w.front w.back said w.before w.behind) (whole_within o (document_alone o sound.shaped) (row_somewhere c w.g w.d w.up).within)
 
       back_whole : Whole o w.back
@@ -97,7 +97,6 @@ module _ (ns : List Node) (tree : IsTree ns) where
     held content c e = let wrong : false ≡ true = e in cc
 
     behind_told : (n c : ℕ) (f b : List Content) → parent_at ns n ≡ Some c → StandsBetween ns n f b → begins_bare ns (seen_behind ns n) ≡ true → is_bare_leaf (first_printed b) ≡ true
-    unfolding w
     behind_told n c f b said s e = by (nearest ns (siblings_after ns n)) refl e
       where
         above : between.Within ns n c f b

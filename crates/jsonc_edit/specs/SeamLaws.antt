@@ -1,10 +1,12 @@
 -- Where a node has been replaced, and where a comment has left: what has become of the leaves, and where spaces have come.
-use Rattle.std.specs.Prelude.{◌≡◌, ℕ, ◌++◌, Bool, true, List, [], ◌∷◌, Some, length}
+use Rattle.std.specs.Prelude.{◌≡◌, ◌⊎◌, ℕ, ◌++◌, Bool, true, false, ◌||◌, List, [], ◌∷◌, Some, length, IsTrue}
 use Rattle.jsonc_text.specs.Options.{Options}
 use Rattle.jsonc_tree.specs.Content.{Content, comment}
 use Rattle.jsonc_tree.specs.OrderedTree.{OrderedTree, leaves, ordered_tree, Top}
 use Rattle.jsonc_tree.specs.Tree.{Node, IsTree}
+use Rattle.jsonc_layout.specs.nodes.Kinds.{is_whitespace, is_newline}
 use Rattle.jsonc_sound.specs.Adjacent.{last_printed}
+use Rattle.jsonc_sound.specs.Lines.{is_line_comment}
 use Rattle.jsonc_sound.specs.MarkChanges.{AreBlanks}
 use Rattle.jsonc_sound.specs.Marks.{comments_of, marks_of}
 use Rattle.jsonc_sound.specs.SoundTrees.{SoundTree}
@@ -22,8 +24,24 @@ abbrev pub HasSeams : List Node → List Node → ℕ → ℕ → Top → Type 0
 HasSeams old new n m now = IsTree old → ReplacedBy old new n m now → (path : List ℕ) → IsAt old path n
     → ReplacedWithSeams path (top_at old n) now (ordered_tree old 0) (ordered_tree new 0)
 
+-- each of the leaves is whitespace
+abbrev pub AreWhitespace : List Content → Type 0
+AreWhitespace [] = Unit {0}
+AreWhitespace (content ∷ rest) = IsTrue (is_whitespace content) × AreWhitespace rest
+
+-- there are no leaves, or the last of them is neither whitespace nor a newline
+abbrev pub EndInNoBlank : List Content → Type 0
+EndInNoBlank ls = (ls ≡ []) ⊎ ((front : List Content) × (content : Content) × (ls ≡ front ++ content ∷ []) × (is_whitespace content || is_newline content) ≡ false)
+
+-- What is removed before a comment, behind these leaves: before a block comment nothing; before a line comment the whitespace that stands there, and the newline
+-- before that, where one does.
+pub data BlanksRemoved (front : List Content) (is_line : Bool) : List Content → Type 0 where
+  before_block : is_line ≡ false → BlanksRemoved front is_line []
+  on_line : {blanks : List Content} → is_line ≡ true → AreWhitespace blanks → EndInNoBlank front → BlanksRemoved front is_line blanks
+  with_newline : {blanks : List Content} (end : Content) → is_line ≡ true → IsTrue (is_newline end) → AreWhitespace blanks → BlanksRemoved front is_line (end ∷ blanks)
+
 -- A comment has left, with blanks directly before it, and nothing else has changed but that where it stood a space has come, or none, directly before what is
--- printed next. In a sound document a space that has come parts two literals without quotes.
+-- printed next. In a sound document a space that has come parts two literals without quotes, and the blanks are those of such a comment.
 pub record LosesWithSeam (old new : OrderedTree) : Type 0 where
   pub front : List Content
   pub blanks : List Content
@@ -35,6 +53,7 @@ pub record LosesWithSeam (old new : OrderedTree) : Type 0 where
   pub silent : PrintNothing quiet
   pub before : leaves old ≡ front ++ ((blanks ++ comment text ∷ []) ++ (quiet ++ rest))
   pub after : leaves new ≡ front ++ (quiet ++ (space_if behind ++ rest))
+  pub blanks_are : (o : Options) → SoundTree o old → BlanksRemoved front (is_line_comment (comment text)) blanks
   pub parts : (o : Options) → SoundTree o old → behind ≡ true → (is_bare_leaf (last_printed front) ≡ true) × (is_bare_leaf (first_printed (quiet ++ rest)) ≡ true)
 
 -- how many comments stand before it

@@ -1,6 +1,6 @@
 //! How the document tells to lay out what replaces a node of it.
 
-ghost use Rattle.std.specs.Prelude.{◌≡◌, ◌<◌, IfOk, length};
+ghost use Rattle.std.specs.Prelude.{◌≡◌, ◌<◌, IfOk, IsTrue, OnErr, length};
 ghost use Rattle.jsonc_layout.specs.input.Views.{plain};
 ghost use Rattle.jsonc_layout.specs.from_input.Laid.{laid};
 ghost use Rattle.jsonc_layout.specs.from_input.Layout.{layout_of};
@@ -70,6 +70,7 @@ pub fn layout_for_value<A: Allocator + Copy>(
     requires node { node < length tree.now.nodes }
     ensures alike { IfOk result
         (λ l. laid (layout_of l) (plain value.now) ≡ laid (layout_for tree.now.nodes container node) (plain value.now)) }
+    ensures oom_only_if { OnErr result (IsTrue (is_spread (plain value.now))) }
 {
     if is_spread(value) {
         return layout_for(alloc, tree, container, node);

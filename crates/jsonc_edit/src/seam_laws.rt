@@ -26,7 +26,8 @@ pub fn values_give_way_with_seams()
 {}
 
 /// Where a comment is taken out, a space comes where it stood, or none, and nothing else; before the
-/// comment of a number stand so many.
+/// comment of a number stand so many. In a sound document a block comment is removed alone, and a line
+/// comment with the whitespace before it and the newline before that, if one stands there.
 pub fn comments_leave_with_seam()
     ensures { (old new : List Node) (n : ℕ) → CommentHasSeam old new n }
 {}

@@ -19,6 +19,7 @@ use Rattle.jsonc_edit.specs.Changes.{row_below, top_at}
 use Rattle.jsonc_edit.specs.Paths.{IsAt}
 use Rattle.jsonc_text.specs.declared.edit.TrailingCommaMode.{TrailingCommaMode}
 use Rattle.jsonc_text.specs.declared.edit.TrailingCommaMode.TheVariants.{Never, IfMultiline}
+use Rattle.jsonc_edit.specs.multiline.Reflows.{has_newline}
 use Rattle.jsonc_edit.specs.commas.Commas.{comma_gone, comma_wanted_behind}
 use Rattle.jsonc_edit.specs.commas.InTurn.{holders, holds_at, AreSetInPart, AreSetInTurn}
 
@@ -41,10 +42,26 @@ pub data LosesCommas : OrderedTree → OrderedTree → Type 0 where
   left : {below after rest : OrderedTree} → LosesCommas below none → IsTrue (closes_next after) → LosesCommas after rest
       → LosesCommas (more (token 0x2C) below after) rest
 
+-- past trivia alone the row comes to its last bracket
+abbrev pub closes_bare : OrderedTree → Bool
+closes_bare none = false
+closes_bare (more content below none) = is_token content && not (is_comma content)
+closes_bare (more content below (more next under after)) = is_trivia content && closes_bare (more next under after)
+
+-- the second row is the first, but that trailing commas have come into it, or rows below it: each directly behind the last element of a row in which a line ends, which
+-- had none. `line`: one ends in this row.
+pub data GainsCommas : (line : Bool) → OrderedTree → OrderedTree → Type 0 where
+  ends : {line : Bool} → GainsCommas line none none
+  stays : {line : Bool} {content : Content} {below under after rest : OrderedTree} → GainsCommas (has_newline below) below under → GainsCommas line after rest
+      → GainsCommas line (more content below after) (more content under rest)
+  comes : {content : Content} {below under after rest : OrderedTree} → IsTrue (is_element content) → IsTrue (closes_bare after)
+      → GainsCommas (has_newline below) below under → GainsCommas true after rest
+      → GainsCommas true (more content below after) (more content under (more (token 0x2C) none rest))
+
 -- commas have left, or come, and nothing else has
 abbrev pub OnlyCommas : TrailingCommaMode → OrderedTree → OrderedTree → Type 0
 OnlyCommas Never t u = LosesCommas t u
-OnlyCommas IfMultiline t u = LosesCommas u t
+OnlyCommas IfMultiline t u = GainsCommas false t u
 
 -- o, but that what the mode sets is allowed
 abbrev pub allowing : TrailingCommaMode → Options → Options

@@ -13,13 +13,13 @@ use Rattle.jsonc_tree.specs.OrderedTree.{Top}
 use Rattle.jsonc_sound.specs.TreeChanges.{IsElement, DocumentChanged}
 use Rattle.jsonc_sound.specs.SoundTrees.{SoundTree}
 use Rattle.jsonc_sound.specs.Marks.{marks}
-use Rattle.jsonc_sound.specs.Leaving.{ElementRemoved, ClosesUp, ValueRemoved, Empties}
+use Rattle.jsonc_sound.specs.Leaving.{ElementRemoved, ClosesUp, ValueRemoved, value_leaves, Empties}
 use Rattle.jsonc_sound.specs.EntryLaws.{LosesEntry, LosesMarks, root_with}
 use Rattle.jsonc_edit.specs.Changes.{top_at}
 use Rattle.jsonc_edit.specs.Comments.{WantsSpace}
 use Rattle.jsonc_edit.specs.Paths.{IsAt, IsElementOf}
 use Rattle.jsonc_edit.specs.Spaced.{SpacesPut}
-use Rattle.jsonc_edit.specs.SeamRemovals.{EntryRemovedWithSeams}
+use Rattle.jsonc_edit.specs.SeamRemovals.{EntryRemovedWithSeams, NoCommentLeft}
 use Rattle.jsonc_text.specs.declared.edit.EditError.TheVariants.{OutOfMemory}
 use Rattle.jsonc_edit.specs.remove.Removed.{IsKeptFor, TakesElement}
 
@@ -45,6 +45,10 @@ TakesEntry o old new path c i n =
     → IsTrue (is_array_or_object (content_at old c)) → IsElementOf old c i n → TakesElement old new n
     → EntryTaken path i (top_at old n) (ordered_tree old 0) (ordered_tree new 0)
 
+-- no comment comes behind what is removed behind it, where that ends no line
+abbrev pub StaysNone : {top : Top} {row left : OrderedTree} → ValueRemoved top row left → Type 0
+StaysNone (value_leaves front back before line apart beside ended) = NoCommentLeft line back
+
 -- the root's value has left, and blanks that were left alone
 pub record ValueTaken (top : Top) (t u : OrderedTree) : Type 0 where
   pub row : OrderedTree
@@ -54,6 +58,7 @@ pub record ValueTaken (top : Top) (t u : OrderedTree) : Type 0 where
   pub was : t ≡ root_with row
   pub now : u ≡ root_with new
   pub leaves : ValueRemoved top row left
+  pub stays : StaysNone leaves
   pub empties : Empties left new
 
 abbrev pub TakesValue : Options → List Node → List Node → ℕ → Type 0

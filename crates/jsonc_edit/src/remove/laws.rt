@@ -9,7 +9,8 @@ ghost use Rattle.jsonc_edit.specs.remove.Laws.{RemovesEntry, RemovesValue, Takes
 
 /// Where an element of a container at a path of a sound document is taken out, spaces come where two
 /// literals without quotes would meet, and then it leaves the container's row, with what goes with it;
-/// and so does the document's value.
+/// and so does the document's value. No whitespace and no comment stays directly before it on its line,
+/// and no comment behind it where its line ends there.
 pub fn elements_are_taken_out()
     ensures entry { (o : Options) (old new : List Node) (path : List ℕ) (c i n : ℕ) → TakesEntry o old new path c i n }
     ensures value { (o : Options) (old new : List Node) (n : ℕ) → TakesValue o old new n }

@@ -11,6 +11,7 @@ use Rattle.jsonc_sound.specs.MarkChanges.{AreBlanks}
 use Rattle.jsonc_sound.specs.Rows.{Last, nothing_yet, an_element, a_comma, last_behind}
 use Rattle.jsonc_sound.specs.TreeChanges.{IsElement}
 use Rattle.jsonc_sound.specs.TriviaChanges.{leaves_then}
+use Rattle.jsonc_edit.specs.SeamRemovals.{line_comes}
 use Rattle.jsonc_edit.specs.Writing.{IsIndent}
 use Rattle.jsonc_edit.specs.multiline.Reflows.{has_newline}
 
@@ -58,11 +59,11 @@ pub data GoesOn (o : Options) (before : List Content) (rest : OrderedTree) : Ord
   none_follow : (gap : List Content) → Gap false gap → element_count rest ≡ 0 → GoesOn o before rest (leaves_then gap rest)
   comma_last : IsTrue o.trailing_commas → Gap true before → element_count rest ≡ 0 → GoesOn o before rest (token_then 0x2C rest)
 
--- What the new element follows, where other elements are: the first bracket or a comma, with nothing between; or on a line of its own the comments on a comma's line,
--- where spaces alone end that.
+-- What the new element follows, where other elements are: the first bracket, or a comma whose line does not end there, with nothing between; or on a line of its own the
+-- comments on a comma's line, where spaces alone end that.
 pub data Follows (gap : List Content) (led back : OrderedTree) (others : ℕ) : Type 0 where
   behind_bracket : led ≡ none → Follows gap led back others
-  behind_comma : (front : OrderedTree) → led ≡ followed_by front (token_then 0x2C none) → Follows gap led back others
+  behind_comma : (front : OrderedTree) → led ≡ followed_by front (token_then 0x2C none) → line_comes back ≡ false → Follows gap led back others
   behind_comments : Gap true gap → (front rest : OrderedTree) (beside spaces : List Content) (k : CstNewlineKind) → AreInlineTrivia beside → AreInlineTrivia spaces → AreBlanks spaces
       → led ≡ followed_by front (token_then 0x2C (leaves_then beside none)) → back ≡ leaves_then spaces (more (newline k) none rest) → Follows gap led back others
   no_others : others ≡ 0 → Follows gap led back others

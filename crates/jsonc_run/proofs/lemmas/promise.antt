@@ -25,6 +25,11 @@ pub mod Inserting
 pub mod Places
 pub mod Bare
 pub mod Replacing
+pub mod LeafEnds
+pub mod NothingBeside
+pub mod NothingBehind
+pub mod Trails
+pub mod BlanksGone
 pub mod Commenting
 pub mod CommasLeft
 pub mod Removing
@@ -51,6 +56,10 @@ pub mod Hexadecimal
 pub mod LinesInside
 pub mod AlongRows
 pub mod UniquePlaces
+pub mod FoundNodes
+pub mod CommasCome
+pub mod TrailingRows
+pub mod CommasByPaths
 pub mod LacksLines
 pub mod EntriesHeld
 pub mod CommasBehind

@@ -7,6 +7,7 @@ use Rattle.jsonc_run.specs.texts.Paths.{Kind, an_array, an_object, opening, clos
 use Rattle.jsonc_run.specs.texts.Entries.{Named, of, Becomes}
 use Rattle.jsonc_text.specs.Documents.{Document}
 use Rattle.jsonc_run.specs.texts.Stretches.{IsLineEnd, HasLine, AreBlanks, AreSpaces, is_space, InLine, Without, written, Come, Inside}
+use Rattle.jsonc_run.specs.texts.Commenting.{OnLine}
 use Rattle.jsonc_run.specs.texts.Layout.{IsLaidEntry}
 
 -- blanks alone come, and leave, and of those that leave none ends a line
@@ -54,6 +55,10 @@ StartsLine s = (line t : List ℕ) × (s ≡ line ++ t) × IsLineEnd line
 abbrev pub EndsLine : List ℕ → Type 0
 EndsLine s = (blanks r : List ℕ) × (s ≡ blanks ++ r) × AreBlanks blanks × InLine blanks × StartsLine r
 
+-- past blanks and comments the line of the text ends
+abbrev pub LineEnds : List ℕ → Type 0
+LineEnds s = (r : List ℕ) × OnLine s r × StartsLine r
+
 -- between brackets, behind the first of which u stands, t stands directly behind that, or directly behind a comma between the entries
 pub data Begins (o : Options) (kind : Kind) (u : List ℕ) : (by_comma : Bool) → (t : List ℕ) → Type 0 where
   at_bracket : Begins o kind u false u
@@ -61,7 +66,7 @@ pub data Begins (o : Options) (kind : Kind) (u : List ℕ) : (by_comma : Bool) �
 
 -- An entry with this text comes between others, those that stand before it and those that follow, before the rest. All around it stays but blanks directly inside of
 -- the brackets; at most a comma comes before it, directly behind an entry, and blanks, and behind it a comma and blanks. A gap leads to it from the first bracket or
--- a comma of the row, which is these blanks alone. Or, where a line ends directly before it, comments on the comma's line are part of that, and with them that line ended. Or it
+-- a comma of the row whose line does not end there, which is these blanks alone. Or, where a line ends directly before it, comments on the comma's line are part of that, and with them that line ended. Or it
 -- is the only entry, and the gap is trivia on the bracket's line, or a line ends directly before it. Where no comma comes behind it a gap leads from there to the last
 -- bracket; where one comes, entries follow, or a line ends directly before it. From the only entry blanks alone lead to the last bracket.
 abbrev pub Joins : Kind → List ℕ → (before follow : List (List ℕ)) → (new rest : List ℕ) → Document → Document → Type 0
@@ -71,7 +76,7 @@ Joins kind path before follow new rest d e = (spread shorter front led gap comma
     × NoCommaComes d.options back × (e.text ≡ led ++ (gap ++ (new ++ rest))) × (rest ≡ comma ++ (behind ++ back))
     × (x t u r : List ℕ) × (by_comma : Bool) × (led ≡ x ++ t) × Value path e.options e.text (opening kind ∷ u) r
     × Begins e.options kind u by_comma (t ++ (gap ++ (new ++ rest))) × Gap d.options (t ++ (gap ++ (new ++ rest))) (new ++ rest)
-    × ((t ≡ []) ⊎ (((by_comma ≡ true) × InLine t × StartsLine gap × EndsLine back) ⊎ ((before ++ follow ≡ []) × (InLine t ⊎ StartsLine gap))))
+    × (((t ≡ []) × (by_comma ≡ true → LineEnds back → ⊥)) ⊎ (((by_comma ≡ true) × InLine t × StartsLine gap × EndsLine back) ⊎ ((before ++ follow ≡ []) × (InLine t ⊎ StartsLine gap))))
     × ((before ++ follow ≡ []) → (z r : List ℕ) × AreBlanks z × (rest ≡ z ++ closing kind ∷ r))
 
 -- Between these and those an entry comes into the container at the path, in one of the layouts, and its marks with its text; each other keeps its text.

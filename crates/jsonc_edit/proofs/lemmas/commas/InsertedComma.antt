@@ -1,5 +1,5 @@
 -- A comma comes into an array or object of a sound document: what becomes of the document.
-use Rattle.std.proofs.Common.{◌≡◌, ◌∙◌, sym, ap, subst, refl, ℕ, suc, ◌+◌, ◌<◌, not, List, [], ◌∷◌, ◌++◌, All, length, take, drop, None, IsTrue, append_assoc}
+use Rattle.std.proofs.Common.{◌≡◌, ◌∙◌, sym, ap, subst, refl, ℕ, suc, ◌+◌, ◌<◌, true, not, List, [], ◌∷◌, ◌++◌, All, length, take, drop, None, IsTrue, append_assoc}
 use Rattle.std.proofs.lemmas.List.Elements.{All-tail}
 use Rattle.jsonc_text.specs.Options.{Options}
 use Rattle.jsonc_tree.specs.Building.{Keeps}
@@ -11,7 +11,7 @@ use Rattle.jsonc_tree.proofs.Appending.{CanJoin-one}
 use Rattle.jsonc_tree.proofs.Builder.{Keeps-adds, Shows-keeps}
 use Rattle.jsonc_layout.proofs.lemmas.nodes.InTree.{children_there}
 use Rattle.jsonc_sound.specs.Shape.{token_then}
-use Rattle.jsonc_sound.specs.Rows.{container_of, holder, opening}
+use Rattle.jsonc_sound.specs.Rows.{RowKind, of_values, of_properties, container_of, holder, opening}
 use Rattle.jsonc_sound.specs.SoundTrees.{SoundTree}
 use Rattle.jsonc_sound.specs.TreeChanges.{DocumentChanged}
 use Rattle.jsonc_sound.proofs.SeamStretches.{followed_joined}
@@ -19,6 +19,8 @@ use Rattle.jsonc_edit.specs.Changes.{row_below, top_at, Respliced}
 use Rattle.jsonc_edit.proofs.FittingNodes.{over_there}
 use Rattle.jsonc_edit.proofs.NodesKept.{at_kept, top_stays, tree_stays}
 use Rattle.jsonc_edit.proofs.Splices.{respliced_over, respliced_row}
+use Rattle.jsonc_edit.specs.multiline.Reflows.{has_newline}
+use Rattle.jsonc_edit.proofs.lemmas.multiline.OnLines.{standing_newline}
 use Rattle.jsonc_edit.specs.commas.Commas.{a_comma, comma_wanted_behind, CommaInsertedAfter}
 use Rattle.jsonc_edit.specs.commas.InTurn.{holds_at}
 use Rattle.jsonc_edit.proofs.lemmas.commas.Children.{may_come}
@@ -27,12 +29,16 @@ use Rattle.jsonc_edit.proofs.lemmas.commas.Holders.{row_stands}
 use Rattle.jsonc_edit.proofs.lemmas.commas.ContainersKept.{ready_children}
 use Rattle.jsonc_edit.proofs.lemmas.commas.OwnRow.{came_now, gap_is, take_past}
 use Rattle.jsonc_edit.proofs.lemmas.commas.Splits.{drop_past, no_elements, split_parent, WantedComma}
-use Rattle.jsonc_edit.proofs.lemmas.commas.WithoutCommas.{behind_bracket, comma_between, document_only}
+use Rattle.jsonc_edit.proofs.lemmas.commas.WithoutCommas.{comma_behind, document_only}
 use Rattle.jsonc_text.specs.declared.edit.TrailingCommaMode.TheVariants.{IfMultiline}
 use Rattle.jsonc_text.proofs.Basics.{heads}
-use Rattle.jsonc_edit.proofs.lemmas.commas.Steps.{closing_next, inside, marks_comma, opens_row, path, same_marks, same_top, under_bracket, Inside, Step}
+use Rattle.jsonc_edit.proofs.lemmas.commas.Steps.{closing_bare, inside, marks_comma, opens_row, path, same_marks, same_top, under_bracket, Inside, Step}
 use Rattle.jsonc_edit.proofs.Lists.{all_front, all_rest}
 use Rattle.jsonc_edit.proofs.Standing.{standing, standing_then, shows_standing}
+
+below_is : (kind : RowKind) (row : OrderedTree) → (container_of kind row).below ≡ token_then (opening kind) row
+below_is of_values row = refl
+below_is of_properties row = refl
 
 -- a comma comes
 module _ (o : Options) (allowed : IsTrue o.trailing_commas) (old new : List Node) (tree : IsTree old) (after : IsTree new) (sound : SoundTree o (ordered_tree old 0)) (c n : ℕ) (over : IsOver old 0 c) (holds : IsTrue (holds_at old c))
@@ -142,6 +148,9 @@ module _ (o : Options) (allowed : IsTrue o.trailing_commas) (old new : List Node
         (subst (λ (w : Top). DocumentChanged w (container_of i.kind (followed_by before (token_then 0x2C back))) p.0 (ordered_tree r.ready 0) (ordered_tree new 0)) was
         (subst (λ (w : Top). DocumentChanged (top_at r.ready c) w p.0 (ordered_tree r.ready 0) (ordered_tree new 0)) now whole))
 
+    lines : has_newline (container_of i.kind (followed_by before back)).below ≡ true
+    lines = ap has_newline (below_is i.kind (followed_by before back) ∙ sym old_row ∙ row_stands old tree c c_there) ∙ standing_newline old (children_at old c) ∙ g.line
+
     given : Step IfMultiline o (ordered_tree old 0) (ordered_tree new 0) × (comma_wanted_behind new c ≡ None)
     given =
         let p = path o old tree sound c over holds in
@@ -149,7 +158,9 @@ module _ (o : Options) (allowed : IsTrue o.trailing_commas) (old new : List Node
           record {
             sound = sound_with o allowed i.kind front (content_at old n) (row_below old n) back p.0 (ordered_tree old 0) (ordered_tree new 0) sound g.element (no_elements old g.back g.behind) lacks changed;
             marks = same_marks (ordered_tree old 0) (ordered_tree new 0) changed (under_bracket i.kind (followed_by before (token_then 0x2C back)) ∙ marks_comma before back ∙ sym (under_bracket i.kind (followed_by before back)));
-            commas = document_only IfMultiline refl (behind_bracket i.kind (comma_between before back (closing_next o i.kind (closes_yet o allowed i.kind front (content_at old n) (row_below old n) back p.0 (ordered_tree old 0) (ordered_tree new 0) sound g.element (no_elements old g.back g.behind) lacks changed)))) changed;
+            commas = document_only IfMultiline refl
+                (comma_behind i.kind front (content_at old n) (row_below old n) back g.element (closing_bare o i.kind (closes_yet o allowed i.kind front (content_at old n) (row_below old n) back p.0 (ordered_tree old 0) (ordered_tree new 0) sound g.element (no_elements old g.back g.behind) lacks changed)) lines)
+                changed;
           },
           came_now old new tree after c n g r,
         )

@@ -241,6 +241,7 @@ pub record WantedComma (ns : List Node) (c n : ℕ) : Type 0 where
   pub element : is_element_at ns n ≡ true
   pub behind : NoneOf (is_element_at ns) back
   pub lacks : comma_first (standing ns back) ≡ false
+  pub line : has_newline ns c ≡ true
 
 pub wanted_parted : (ns : List Node) → IsTree ns → (c n : ℕ) → comma_wanted_behind ns c ≡ Some n → WantedComma ns c n
 wanted_parted ns tree c n e =
@@ -256,6 +257,7 @@ wanted_parted ns tree c n e =
       element = l.is;
       behind = l.behind;
       lacks = comma_found ns l.back ∙ ap (λ x. is_some (if_comma ns (find (is_no_trivia_at ns) x))) (sym row) ∙ ap (λ x. is_some (trailing_comma_at ns x)) (sym t.1) ∙ t.0;
+      line = w.0;
     }
 
 -- a row in which no comma stands behind its last element

@@ -19,7 +19,7 @@ use Rattle.jsonc_edit.specs.Changes.{row_below}
 use Rattle.jsonc_edit.specs.Paths.{IsAt}
 use Rattle.jsonc_edit.proofs.FittingNodes.{over_there}
 use Rattle.jsonc_edit.specs.commas.InTurn.{holds_at}
-use Rattle.jsonc_edit.specs.commas.Laws.{OnlyCommas, closes_next}
+use Rattle.jsonc_edit.specs.commas.Laws.{OnlyCommas, closes_bare, closes_next}
 use Rattle.jsonc_text.specs.declared.edit.TrailingCommaMode.{TrailingCommaMode}
 use Rattle.jsonc_text.proofs.Basics.{heads}
 use Rattle.jsonc_edit.proofs.lemmas.commas.CommaRows.{comma_first, Closing, bracket, behind}
@@ -54,6 +54,21 @@ closing_next o kind bracket = by kind
 closing_next o kind (behind {content = content} {after = after} t c) = by content after t (closing_next o kind c)
   where
     by : (w : Content) (a : OrderedTree) → IsTrivia o w → IsTrue (closes_next a) → IsTrue (closes_next (more w none a))
+    by w none h e = cc
+    by (Content.whitespace s) (more x y z) h e = e
+    by (Content.newline k) (more x y z) h e = e
+    by (Content.comment s) (more x y z) h e = e
+    by w (more x y z) h e = absurd h
+
+pub closing_bare : (o : Options) (kind : RowKind) {row : OrderedTree} → Closing o kind row → IsTrue (closes_bare row)
+closing_bare o kind bracket = by kind
+  where
+    by : (k : RowKind) → IsTrue (closes_bare (token_then (rows.closing k) none))
+    by rows.of_values = refl
+    by rows.of_properties = refl
+closing_bare o kind (behind {content = content} {after = after} t c) = by content after t (closing_bare o kind c)
+  where
+    by : (w : Content) (a : OrderedTree) → IsTrivia o w → IsTrue (closes_bare a) → IsTrue (closes_bare (more w none a))
     by w none h e = cc
     by (Content.whitespace s) (more x y z) h e = e
     by (Content.newline k) (more x y z) h e = e

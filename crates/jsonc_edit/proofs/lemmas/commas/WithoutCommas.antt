@@ -1,20 +1,21 @@
 -- Trees that differ in commas alone have the same value.
-use Rattle.std.proofs.Common.{◌≡◌, ◌∙◌, ℕ, sym, ap, subst, refl, ◌||◌, true, false, cond, if◌then◌else◌, inl, inr, List, Option, Some, None, IsTrue}
+use Rattle.std.proofs.Common.{◌≡◌, ◌∙◌, ℕ, sym, ap, subst, refl, Bool, ◌||◌, true, false, not, cond, if◌then◌else◌, inl, inr, List, Option, Some, None, IsTrue}
 use Rattle.std.proofs.lemmas.Bool.{cases_Bool}
 use Rattle.jsonc_text.specs.Options.{Options}
-use Rattle.jsonc_text.proofs.Basics.{and_both}
+use Rattle.jsonc_text.proofs.Basics.{and_both, or_left}
 use Rattle.jsonc_text.specs.Plain.{Plain, Items, item, Members}
 use Rattle.jsonc_tree.specs.Content.{Content}
 use Rattle.jsonc_tree.specs.OrderedTree.{OrderedTree, Top, none, more, followed_by}
 use Rattle.jsonc_tree.specs.Values as values
 use Rattle.jsonc_tree.specs.Values.{is_passed_over, ValueOf, ItemsOf, MembersOf, PropertyOf, HoldsValue, HasNoValue, HoldsAtMostOne, DocumentValueOf}
-use Rattle.jsonc_layout.specs.nodes.Kinds.{is_comma, is_trivia}
+use Rattle.jsonc_layout.specs.nodes.Kinds.{is_comma, is_element, is_newline, is_token, is_trivia}
 use Rattle.jsonc_sound.specs.Rows.{RowKind, of_values, of_properties, container_of}
 use Rattle.jsonc_sound.specs.TreeChanges.{IsElement, ElementChanged, this_element, passed, later_element, ValueChanged, itself, in_array, in_object, DocumentChanged, in_root}
 use Rattle.jsonc_sound.proofs.FirstNodes.{name_leaf_element, value_of_element}
 use Rattle.jsonc_text.specs.declared.edit.TrailingCommaMode.{TrailingCommaMode}
 use Rattle.jsonc_text.specs.declared.edit.TrailingCommaMode.TheVariants.{Never, IfMultiline}
-use Rattle.jsonc_edit.specs.commas.Laws.{LosesCommas, closes_next, ended, stayed, left, OnlyCommas}
+use Rattle.jsonc_edit.specs.commas.Laws.{LosesCommas, GainsCommas, closes_next, closes_bare, ended, stayed, left, ends, stays, comes, OnlyCommas}
+use Rattle.jsonc_edit.specs.multiline.Reflows.{has_newline}
 use Rattle.jsonc_edit.proofs.LeafKinds.{element_no_comma}
 use Rattle.jsonc_edit.proofs.Lists.{both_so}
 
@@ -101,10 +102,6 @@ same_without (stayed {content = content} {below = below} {under = under} {after 
     ∙ ap (λ b. cond (is_comma content) (without_commas after) (more content b (without_commas after))) (same_without p)
 same_without (left p e q) = same_without q
 
-pub only_without : (mode : TrailingCommaMode) (t u : OrderedTree) → OnlyCommas mode t u → without_commas u ≡ without_commas t
-only_without Never t u h = same_without h
-only_without IfMultiline t u h = sym (same_without h)
-
 -- nothing leaves, and one list of commas after another
 loses_none : (t : OrderedTree) → LosesCommas t t
 loses_none none = ended
@@ -115,6 +112,14 @@ none_left ended = refl
 none_left (left {after = after} p e q) = let wrong : IsTrue (closes_next none) = subst (λ a. IsTrue (closes_next a)) (none_left q) e in cc
 
 -- a row closes where it closes without some commas
+bare_then : (content : Content) (below after : OrderedTree) → IsTrue (is_trivia content) → IsTrue (closes_bare after) → IsTrue (closes_bare (more content below after))
+bare_then content below none h e = cc
+bare_then content below (more c b a) h e = both_so (is_trivia content) (closes_bare (more c b a)) h e
+
+comma_not_bare : (rest : OrderedTree) → IsTrue (closes_bare (more (Content.token 0x2C) none rest)) → ⊥
+comma_not_bare none h = cc
+comma_not_bare (more c b a) h = cc
+
 comma_then : (below after : OrderedTree) → IsTrue (closes_next after) → IsTrue (closes_next (more (Content.token 0x2C) below after))
 comma_then below none e = cc
 comma_then below (more c b a) e = e
@@ -138,36 +143,142 @@ loses_then (stayed p q) (stayed r s) = stayed (loses_then p r) (loses_then q s)
 loses_then (stayed p q) (left r e s) = left (loses_then p r) (closes_before q e) (loses_then q s)
 loses_then (left p e q) h = left p e (loses_then q h)
 
+-- a newline is in a row where it was
+pub newline_stays : {line : Bool} {x y : OrderedTree} → GainsCommas line x y → has_newline y ≡ has_newline x
+newline_stays ends = refl
+newline_stays (stays {content = content} p q) = ap (λ b. is_newline content || b) (newline_stays q)
+newline_stays (comes {content = content} e c p q) = ap (λ b. is_newline content || b) (newline_stays q)
+
+element_no_trivia : (content : Content) → IsTrue (is_element content) → IsTrue (is_trivia content) → ⊥
+element_no_trivia (Content.whitespace s) h k = cc
+element_no_trivia (Content.newline n) h k = cc
+element_no_trivia (Content.comment s) h k = cc
+element_no_trivia content h k = cc
+
+element_no_token : (content : Content) → IsTrue (is_element content) → IsTrue (is_token content) → ⊥
+element_no_token (Content.token c) h k = cc
+element_no_token content h k = cc
+
+-- no element is in a row that closes
+bare_no_element : (content : Content) (below after : OrderedTree) → IsTrue (is_element content) → IsTrue (closes_bare (more content below after)) → ⊥
+bare_no_element content below none h k = element_no_token content h (and_both (is_token content) (not (is_comma content)) k).0
+bare_no_element content below (more n u a) h k = element_no_trivia content h (and_both (is_trivia content) (closes_bare (more n u a)) k).0
+
+none_gained : {line : Bool} {x : OrderedTree} → GainsCommas line none x → x ≡ none
+none_gained ends = refl
+
+pub none_before : {line : Bool} {x : OrderedTree} → GainsCommas line x none → x ≡ none
+none_before ends = refl
+
+bare_before : {line : Bool} {x y : OrderedTree} → GainsCommas line x y → IsTrue (closes_bare y) → IsTrue (closes_bare x)
+bare_before ends h = h
+bare_before (comes {content = content} {under = under} {rest = rest} e c p q) h = absurd (bare_no_element content under (more (Content.token 0x2C) none rest) e h)
+bare_before {line} (stays {content = content} {below = below} {under = under} {after = after} {rest = rest} p q) h = by rest q h (λ k. bare_before q k)
+  where
+    by : (r : OrderedTree) → GainsCommas line after r → IsTrue (closes_bare (more content under r)) → (IsTrue (closes_bare r) → IsTrue (closes_bare after)) → IsTrue (closes_bare (more content below after))
+    by none k h f = subst (λ a. IsTrue (closes_bare (more content below a))) (sym (none_before k)) h
+    by (more n u r) k h f = let two = and_both (is_trivia content) (closes_bare (more n u r)) h in bare_then content below after two.0 (f two.1)
+
+-- it closes still
+bare_after : {line : Bool} {x y : OrderedTree} → GainsCommas line x y → IsTrue (closes_bare x) → IsTrue (closes_next y)
+bare_after ends h = h
+bare_after (comes {content = content} {below = below} {after = after} e c p q) h = absurd (bare_no_element content below after e h)
+bare_after {line} (stays {content = content} {below = below} {under = under} {after = after} {rest = rest} p q) h = by after q h (λ k. bare_after q k)
+  where
+    by : (a : OrderedTree) → GainsCommas line a rest → IsTrue (closes_bare (more content below a)) → (IsTrue (closes_bare a) → IsTrue (closes_next rest)) → IsTrue (closes_next (more content under rest))
+    by none k h f = subst (λ r. IsTrue (closes_next (more content under r))) (sym (none_gained k)) h
+    by (more n u a) k h f = let two = and_both (is_trivia content) (closes_bare (more n u a)) h in leaf_then content under rest (or_left (is_trivia content) (is_comma content) two.0) (f two.1)
+
+-- without them it is the first row
+pub gains_loses : {line : Bool} {x y : OrderedTree} → GainsCommas line x y → LosesCommas y x
+gains_loses ends = ended
+gains_loses (stays p q) = stayed (gains_loses p) (gains_loses q)
+gains_loses (comes e c p q) = stayed (gains_loses p) (left ended (bare_after q c) (gains_loses q))
+
+pub only_without : (mode : TrailingCommaMode) (t u : OrderedTree) → OnlyCommas mode t u → without_commas u ≡ without_commas t
+only_without Never t u h = same_without h
+only_without IfMultiline t u h = sym (same_without (gains_loses h))
+
+gains_none : {line : Bool} (t : OrderedTree) → GainsCommas line t t
+gains_none none = ends
+gains_none (more content below after) = stays (gains_none below) (gains_none after)
+
+gains_then : {line : Bool} {t u v : OrderedTree} → GainsCommas line t u → GainsCommas line u v → GainsCommas line t v
+gains_then ends h = h
+gains_then (stays {below = below} {under = under} p q) (stays {under = beneath} r s) = stays (gains_then p (subst (λ b. GainsCommas b under beneath) (newline_stays p) r)) (gains_then q s)
+gains_then (stays {below = below} {under = under} p q) (comes {under = beneath} e c r s) =
+    comes e (bare_before q c) (gains_then p (subst (λ b. GainsCommas b under beneath) (newline_stays p) r)) (gains_then q s)
+gains_then (comes {content = content} {below = below} {under = under} {after = after} {rest = rest} e c p q) (stays {under = beneath} r s) =
+    by (gains_then p (subst (λ b. GainsCommas b under beneath) (newline_stays p) r)) (λ v l. gains_then q l) s
+  where
+    by : {next : OrderedTree} → GainsCommas (has_newline below) below beneath → ((v : OrderedTree) → GainsCommas true rest v → GainsCommas true after v) → GainsCommas true (more (Content.token 0x2C) none rest) next
+        → GainsCommas true (more content below after) (more content beneath next)
+    by own on (stays {under = bare} {rest = last} k l) = subst (λ b. GainsCommas true (more content below after) (more content beneath (more (Content.token 0x2C) b last))) (sym (none_gained k)) (comes e c own (on last l))
+    by own on (comes f d k l) = cc
+gains_then (comes {content = content} {rest = rest} e c p q) (comes f d r s) = absurd (comma_not_bare rest d)
+
 pub only_same : (mode : TrailingCommaMode) (t : OrderedTree) → OnlyCommas mode t t
 only_same Never t = loses_none t
-only_same IfMultiline t = loses_none t
+only_same IfMultiline t = gains_none t
 
 pub only_then : (mode : TrailingCommaMode) (t u v : OrderedTree) → OnlyCommas mode t u → OnlyCommas mode u v → OnlyCommas mode t v
 only_then Never t u v h k = loses_then h k
-only_then IfMultiline t u v h k = loses_then k h
+only_then IfMultiline t u v h k = gains_then h k
 
-only_stayed : (mode : TrailingCommaMode) (c d : Content) (below under after rest : OrderedTree) → d ≡ c → OnlyCommas mode below under → OnlyCommas mode after rest → OnlyCommas mode (more c below after) (more d under rest)
-only_stayed Never c d below under after rest e h k = subst (λ w. LosesCommas (more c below after) (more w under rest)) (sym e) (stayed h k)
-only_stayed IfMultiline c d below under after rest e h k = subst (λ w. LosesCommas (more w under rest) (more c below after)) (sym e) (stayed h k)
+-- the same of a row in which a line ends, or none, and of what is below a node
+abbrev pub InRow : TrailingCommaMode → Bool → OrderedTree → OrderedTree → Type 0
+InRow Never line t u = LosesCommas t u
+InRow IfMultiline line t u = GainsCommas line t u
+
+abbrev pub Below : TrailingCommaMode → OrderedTree → OrderedTree → Type 0
+Below mode t u = InRow mode (has_newline t) t u
+
+row_same : (mode : TrailingCommaMode) (line : Bool) (t : OrderedTree) → InRow mode line t t
+row_same Never line t = loses_none t
+row_same IfMultiline line t = gains_none t
+
+row_stayed : (mode : TrailingCommaMode) (line : Bool) (c d : Content) (below under after rest : OrderedTree) → d ≡ c → Below mode below under → InRow mode line after rest → InRow mode line (more c below after) (more d under rest)
+row_stayed Never line c d below under after rest e h k = subst (λ w. LosesCommas (more c below after) (more w under rest)) (sym e) (stayed h k)
+row_stayed IfMultiline line c d below under after rest e h k = subst (λ w. GainsCommas line (more c below after) (more w under rest)) (sym e) (stays h k)
 
 -- where a node is replaced by one that differs from it in commas alone, so is the document
-row_only : (mode : TrailingCommaMode) {x y : Top} {i : ℕ} {row new : OrderedTree} → y.content ≡ x.content → OnlyCommas mode x.below y.below → ElementChanged x y i row new → OnlyCommas mode row new
-row_only mode {x} {y} e f (this_element {after = after} p q) = only_stayed mode x.content y.content x.below y.below after after e f (only_same mode after)
-row_only mode e f (passed {content = content} {below = below} {x = s} {y = t} p k) = only_stayed mode content content below below s t refl (only_same mode below) (row_only mode e f k)
-row_only mode e f (later_element {content = content} {below = below} {x = s} {y = t} p k) = only_stayed mode content content below below s t refl (only_same mode below) (row_only mode e f k)
+row_only : (mode : TrailingCommaMode) (line : Bool) {x y : Top} {i : ℕ} {row new : OrderedTree} → y.content ≡ x.content → Below mode x.below y.below → ElementChanged x y i row new → InRow mode line row new
+row_only mode line {x} {y} e f (this_element {after = after} p q) = row_stayed mode line x.content y.content x.below y.below after after e f (row_same mode line after)
+row_only mode line e f (passed {content = content} {below = below} {x = s} {y = t} p k) = row_stayed mode line content content below below s t refl (row_same mode (has_newline below) below) (row_only mode line e f k)
+row_only mode line e f (later_element {content = content} {below = below} {x = s} {y = t} p k) = row_stayed mode line content content below below s t refl (row_same mode (has_newline below) below) (row_only mode line e f k)
 
-value_only : (mode : TrailingCommaMode) {was now : Top} {path : List ℕ} {x y : Top} → now.content ≡ was.content → OnlyCommas mode was.below now.below → ValueChanged was now path x y → (y.content ≡ x.content) × OnlyCommas mode x.below y.below
+value_only : (mode : TrailingCommaMode) {was now : Top} {path : List ℕ} {x y : Top} → now.content ≡ was.content → Below mode was.below now.below → ValueChanged was now path x y → (y.content ≡ x.content) × Below mode x.below y.below
 value_only mode e f itself = (e, f)
-value_only mode e f (in_array k d) = let v = value_only mode e f d in (refl, row_only mode v.0 v.1 k)
-value_only mode e f (in_object k g d) = let v = value_only mode e f d in (refl, row_only mode refl (row_only mode v.0 v.1 g) k)
+value_only mode e f (in_array {row = row} k d) = let v = value_only mode e f d in (refl, row_only mode (has_newline row) v.0 v.1 k)
+value_only mode e f (in_object {held = held} {row = row} k g d) = let v = value_only mode e f d in (refl, row_only mode (has_newline row) refl (row_only mode (has_newline held) v.0 v.1 g) k)
 
-pub document_only : (mode : TrailingCommaMode) {was now : Top} {path : List ℕ} {t u : OrderedTree} → now.content ≡ was.content → OnlyCommas mode was.below now.below → DocumentChanged was now path t u → OnlyCommas mode t u
-document_only mode e f (in_root {row = row} {new = new} k d) = let v = value_only mode e f d in only_stayed mode Content.root Content.root row new none none refl (row_only mode v.0 v.1 k) (only_same mode none)
+only_root : (mode : TrailingCommaMode) (row new : OrderedTree) → Below mode row new → OnlyCommas mode (more Content.root row none) (more Content.root new none)
+only_root Never row new h = stayed h ended
+only_root IfMultiline row new h = stays h ends
+
+pub document_only : (mode : TrailingCommaMode) {was now : Top} {path : List ℕ} {t u : OrderedTree} → now.content ≡ was.content → Below mode was.below now.below → DocumentChanged was now path t u → OnlyCommas mode t u
+document_only mode e f (in_root {row = row} {new = new} k d) = let v = value_only mode e f d in only_root mode row new (row_only mode (has_newline row) v.0 v.1 k)
 
 -- rows that differ in one comma, and those with a bracket before them
 pub comma_between : (front back : OrderedTree) → IsTrue (closes_next back) → LosesCommas (followed_by front (more (Content.token 0x2C) none back)) (followed_by front back)
 comma_between none back h = left ended h (loses_none back)
 comma_between (more content below after) back h = stayed (loses_none below) (comma_between after back h)
+
+-- a comma has come behind the last element, and behind the first bracket too
+comma_comes : (front : OrderedTree) (content : Content) (below back : OrderedTree) → IsTrue (is_element content) → IsTrue (closes_bare back)
+    → GainsCommas true (followed_by (followed_by front (more content below none)) back) (followed_by (followed_by front (more content below none)) (more (Content.token 0x2C) none back))
+comma_comes none content below back e h = comes e h (gains_none below) (gains_none back)
+comma_comes (more c b after) content below back e h = stays (gains_none b) (comma_comes after content below back e h)
+
+pub comma_behind : (kind : RowKind) (front : OrderedTree) (content : Content) (below back : OrderedTree) → IsTrue (is_element content) → IsTrue (closes_bare back)
+    → has_newline (container_of kind (followed_by (followed_by front (more content below none)) back)).below ≡ true
+    → Below IfMultiline (container_of kind (followed_by (followed_by front (more content below none)) back)).below (container_of kind (followed_by (followed_by front (more content below none)) (more (Content.token 0x2C) none back))).below
+comma_behind kind front content below back e h line =
+    subst (λ b. GainsCommas b (container_of kind (followed_by (followed_by front (more content below none)) back)).below (container_of kind (followed_by (followed_by front (more content below none)) (more (Content.token 0x2C) none back))).below) (sym line) (by kind)
+  where
+    by : (k : RowKind) → GainsCommas true (container_of k (followed_by (followed_by front (more content below none)) back)).below (container_of k (followed_by (followed_by front (more content below none)) (more (Content.token 0x2C) none back))).below
+    by of_values = stays ends (comma_comes front content below back e h)
+    by of_properties = stays ends (comma_comes front content below back e h)
 
 pub behind_bracket : (kind : RowKind) {x y : OrderedTree} → LosesCommas x y → LosesCommas (container_of kind x).below (container_of kind y).below
 behind_bracket of_values h = stayed ended h

@@ -1,11 +1,12 @@
 -- Rows of trees, told by the contents of the nodes that stand for them, with a space or without.
-use Rattle.std.proofs.Common.{◌≡◌, ℕ, suc, ◌+◌, Bool, true, false, not, ◌&&◌, List, [], ◌∷◌, ◌++◌, map, IsTrue, if◌then◌else◌, refl, ap, ◌∙◌, arith}
+use Rattle.std.proofs.Common.{◌≡◌, ◌⊎◌, inl, inr, ℕ, suc, ◌+◌, Bool, true, false, not, ◌&&◌, ◌||◌, List, [], ◌∷◌, ◌++◌, map, IsTrue, if◌then◌else◌, refl, ap, ◌∙◌, arith}
 use Rattle.jsonc_tree.specs.Content.{Content, whitespace}
 use Rattle.jsonc_tree.specs.OrderedTree.{OrderedTree, Shows, shows_none, shows_more}
 use Rattle.jsonc_tree.specs.Tree.{Node, content_at}
-use Rattle.jsonc_layout.specs.nodes.Kinds.{is_inline_trivia, is_element, is_trivia, is_comma}
+use Rattle.jsonc_layout.specs.nodes.Kinds.{is_comma, is_comment, is_element, is_inline_trivia, is_newline, is_trivia, is_whitespace}
 use Rattle.jsonc_sound.specs.TriviaChanges.{AreTrivia}
-use Rattle.jsonc_sound.specs.Leaving.{AreInlineTrivia, ends_apart, has_no_comma, comma_comes, element_count}
+use Rattle.jsonc_sound.specs.Leaving.{AreInlineTrivia, LeavesBehind, ends_apart, has_no_comma, comma_comes, element_count}
+use Rattle.jsonc_edit.specs.SeamRemovals.{EndsLine, comment_comes, line_comes}
 
 -- the same of contents as of rows of trees
 abbrev pub apart : List Content → Bool
@@ -21,9 +22,26 @@ abbrev pub comma_first : List Content → Bool
 comma_first [] = false
 comma_first (x ∷ rest) = if is_trivia x then comma_first rest else is_comma x
 
+abbrev pub line_first : List Content → Bool
+line_first [] = false
+line_first (x ∷ rest) = is_newline x || (is_inline_trivia x && line_first rest)
+
+abbrev pub comment_first : List Content → Bool
+comment_first [] = false
+comment_first (x ∷ rest) = is_comment x || (is_whitespace x && comment_first rest)
+
 abbrev pub count : List Content → ℕ
 count [] = 0
 count (x ∷ rest) = if is_element x then suc (count rest) else count rest
+
+-- how a stretch is removed with the comma in it, and with none, and what comes behind that
+pub record GoesWith (between line back : List Content) : Type 0 where
+  pub leaves : LeavesBehind between line
+  pub none_left : AreInlineTrivia between → line ≡ [] → line_first back ≡ false
+
+pub record GoesWithout (line back : List Content) : Type 0 where
+  pub no_comma : comma_first back ≡ false
+  pub none_left : EndsLine line ⊎ (comment_first back ≡ false)
 
 module _ (ns : List Node) where
   pub apart_shown : {xs : List ℕ} {t : OrderedTree} → Shows ns xs t → ends_apart t ≡ apart (map (content_at ns) xs)
@@ -38,6 +56,14 @@ module _ (ns : List Node) where
   pub first_shown : {xs : List ℕ} {t : OrderedTree} → Shows ns xs t → comma_comes t ≡ comma_first (map (content_at ns) xs)
   first_shown shows_none = refl
   first_shown (shows_more {n = n} p r) = ap (λ b. if is_trivia (content_at ns n) then b else is_comma (content_at ns n)) (first_shown r)
+
+  pub line_shown : {xs : List ℕ} {t : OrderedTree} → Shows ns xs t → line_comes t ≡ line_first (map (content_at ns) xs)
+  line_shown shows_none = refl
+  line_shown (shows_more {n = n} p r) = ap (λ b. is_newline (content_at ns n) || (is_inline_trivia (content_at ns n) && b)) (line_shown r)
+
+  pub comment_shown : {xs : List ℕ} {t : OrderedTree} → Shows ns xs t → comment_comes t ≡ comment_first (map (content_at ns) xs)
+  comment_shown shows_none = refl
+  comment_shown (shows_more {n = n} p r) = ap (λ b. is_comment (content_at ns n) || (is_whitespace (content_at ns n) && b)) (comment_shown r)
 
   pub count_shown : {xs : List ℕ} {t : OrderedTree} → Shows ns xs t → element_count t ≡ count (map (content_at ns) xs)
   count_shown shows_none = refl
@@ -115,6 +141,27 @@ pub first_gains : {xs ys : List Content} → Gains xs ys → comma_first ys ≡ 
 first_gains same = refl
 first_gains here = refl
 first_gains (later {x = x} g) = ap (λ b. if is_trivia x then b else is_comma x) (first_gains g)
+
+line_gains : {xs ys : List Content} → Gains xs ys → line_first ys ≡ line_first xs
+line_gains same = refl
+line_gains here = refl
+line_gains (later {x = x} g) = ap (λ b. is_newline x || (is_inline_trivia x && b)) (line_gains g)
+
+comment_gains : {xs ys : List Content} → Gains xs ys → comment_first ys ≡ comment_first xs
+comment_gains same = refl
+comment_gains here = refl
+comment_gains (later {x = x} g) = ap (λ b. is_comment x || (is_whitespace x && b)) (comment_gains g)
+
+-- so it goes where such a space has come
+pub goes_with_gains : {between line xs ys : List Content} → Gains xs ys → GoesWith between line xs → GoesWith between line ys
+goes_with_gains g w = record { leaves = w.leaves; none_left = λ a b. line_gains g ∙ w.none_left a b }
+
+pub goes_without_gains : {line xs ys : List Content} → Gains xs ys → GoesWithout line xs → GoesWithout line ys
+goes_without_gains {line} {xs} {ys} g w = record { no_comma = first_gains g ∙ w.no_comma; none_left = by w.none_left }
+  where
+    by : EndsLine line ⊎ (comment_first xs ≡ false) → EndsLine line ⊎ (comment_first ys ≡ false)
+    by (inl e) = inl e
+    by (inr e) = inr (comment_gains g ∙ e)
 
 -- a space before what stands behind these
 pub gains_at : (front : List Content) (x : Content) (rest : List Content) → Gains (front ++ x ∷ rest) (front ++ whitespace (0x20 ∷ []) ∷ x ∷ rest)

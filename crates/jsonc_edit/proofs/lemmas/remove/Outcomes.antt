@@ -1,5 +1,5 @@
 -- An element has left a container's row: which row that was, and which it is.
-use Rattle.std.proofs.Common.{◌≡◌, ◌≢◌, ℕ, suc, ◌+◌, ◌<◌, Bool, true, false, not, ◌&&◌, cond, List, [], ◌∷◌, ◌++◌, length, filter, reverse, take, Option, Some, None, IsTrue, if◌then◌else◌, refl, sym, ap, subst, ◌∙◌, arith}
+use Rattle.std.proofs.Common.{◌≡◌, ◌≢◌, ◌⊎◌, inl, inr, ℕ, suc, ◌+◌, ◌<◌, Bool, true, false, not, ◌&&◌, ◌||◌, cond, List, [], ◌∷◌, ◌++◌, length, filter, reverse, take, Option, Some, None, IsTrue, if◌then◌else◌, refl, sym, ap, subst, ◌∙◌, arith}
 use Rattle.std.proofs.lemmas.List.{append_assoc, length-append, map-append, reverse-append, take_at}
 use Rattle.std.proofs.lemmas.List.Folds.{find-append}
 use Rattle.std.specs.Option.{option_or}
@@ -12,7 +12,7 @@ use Rattle.jsonc_tree.specs.Tree.{Node, content_at, parent_at, children_at, plac
 use Rattle.jsonc_tree.proofs.Order.{parent_there}
 use Rattle.jsonc_tree.proofs.OrderedTrees.{leaves-followed_by}
 use Rattle.jsonc_tree.proofs.Rows.{Shows-append, Shows-part, followed_by-assoc, followed_by-none}
-use Rattle.jsonc_layout.specs.nodes.Kinds.{is_comma, is_element, is_element_at, is_trivia}
+use Rattle.jsonc_layout.specs.nodes.Kinds.{is_comma, is_comment, is_element, is_element_at, is_inline_trivia, is_newline, is_trivia, is_whitespace}
 use Rattle.jsonc_sound.specs.Shape.{token_then}
 use Rattle.jsonc_layout.specs.lines.Kinds.{is_array_or_object}
 use Rattle.jsonc_sound.specs.Rows.{RowKind, opening, closing}
@@ -21,7 +21,7 @@ use Rattle.jsonc_sound.specs.Adjacent.{last_printed}
 use Rattle.jsonc_sound.specs.Spaces.{first_printed, is_bare, is_bare_leaf, meet, space_then}
 use Rattle.jsonc_edit.specs.Due.{nearest, beginning_in, begins_bare, ends_bare, is_bare_at, prints_at}
 use Rattle.jsonc_edit.specs.Put.{a_space}
-use Rattle.jsonc_edit.specs.SeamRemovals.{SpaceFirst, none_first, space_first, RemovedWithSeams, comma_behind, comma_before, no_comma}
+use Rattle.jsonc_edit.specs.SeamRemovals.{EndsLine, NoCommentLeft, NoLineLeft, SpaceFirst, none_first, space_first, RemovedWithSeams, comma_behind, comma_before, comment_comes, line_comes, no_comma}
 use Rattle.jsonc_edit.proofs.LeavesAroundNodes.{silent_row}
 use Rattle.jsonc_sound.specs.Leaving.{AreInlineTrivia, ends_apart, element_count, has_no_comma, comma_comes, among, ElementRemoved, with_comma_behind, with_comma_before, with_no_comma, ClosesUp}
 use Rattle.jsonc_sound.proofs.RowParts.{rest_trivia, between_trivia, line_trivia}
@@ -32,7 +32,7 @@ use Rattle.jsonc_edit.specs.Paths.{IsElementOf}
 use Rattle.jsonc_edit.proofs.Elements.{stands_at}
 use Rattle.jsonc_edit.proofs.ChangesUpward.{Shows-row_below}
 use Rattle.jsonc_edit.specs.remove.Removed.{IsClosedUp, LosesChild}
-use Rattle.jsonc_edit.proofs.lemmas.remove.Contents.{apart, count, apart_shown, commas_shown, first_shown, count_shown, count_append, count_beside}
+use Rattle.jsonc_edit.proofs.lemmas.remove.Contents.{GoesWith, GoesWithout, apart, comment_first, count, apart_shown, commas_shown, comment_shown, first_shown, line_shown, count_shown, count_append, count_beside}
 use Rattle.jsonc_edit.proofs.lemmas.remove.RemovedStretches.{Edges}
 use Rattle.jsonc_edit.proofs.lemmas.remove.Places.{Come, none_come, one_come, Quiet, place_in}
 use Rattle.jsonc_edit.proofs.lemmas.remove.SpacedRow.{Settled, settled_behind, settled_before, settled_none, comma_is}
@@ -74,6 +74,15 @@ free_of_commas (space_first quiet rest s l f) = by quiet
     by none = refl
     by (more c b q) = ap (λ x. not (is_comma c) && x) (by q)
 
+apart_as_well : {ahead : List Content} {x y : OrderedTree} → SpaceFirst ahead x y → (content : Content) (below : OrderedTree) → ends_apart (more content below x) ≡ ends_apart (more content below y)
+apart_as_well none_first content below = refl
+apart_as_well (space_first quiet none s l f) content below = let wrong : false ≡ true = f in cc
+apart_as_well (space_first quiet (more d e rest) s l f) content below = by quiet content below
+  where
+    by : (q : OrderedTree) (content : Content) (below : OrderedTree) → ends_apart (more content below (followed_by q (more d e rest))) ≡ ends_apart (more content below (followed_by q (space_then (more d e rest))))
+    by none content below = refl
+    by (more c b q) content below = by q c b
+
 comes_as_well : {ahead : List Content} {x y : OrderedTree} → SpaceFirst ahead x y → comma_comes x ≡ comma_comes y
 comes_as_well none_first = refl
 comes_as_well (space_first quiet rest s l f) = by quiet
@@ -81,6 +90,33 @@ comes_as_well (space_first quiet rest s l f) = by quiet
     by : (q : OrderedTree) → comma_comes (followed_by q rest) ≡ comma_comes (followed_by q (space_then rest))
     by none = refl
     by (more c b q) = ap (λ x. if is_trivia c then x else is_comma c) (by q)
+
+line_as_well : {ahead : List Content} {x y : OrderedTree} → SpaceFirst ahead x y → line_comes x ≡ line_comes y
+line_as_well none_first = refl
+line_as_well (space_first quiet rest s l f) = by quiet
+  where
+    by : (q : OrderedTree) → line_comes (followed_by q rest) ≡ line_comes (followed_by q (space_then rest))
+    by none = refl
+    by (more c b q) = ap (λ x. is_newline c || (is_inline_trivia c && x)) (by q)
+
+comment_as_well : {ahead : List Content} {x y : OrderedTree} → SpaceFirst ahead x y → comment_comes x ≡ comment_comes y
+comment_as_well none_first = refl
+comment_as_well (space_first quiet rest s l f) = by quiet
+  where
+    by : (q : OrderedTree) → comment_comes (followed_by q rest) ≡ comment_comes (followed_by q (space_then rest))
+    by none = refl
+    by (more c b q) = ap (λ x. is_comment c || (is_whitespace c && x)) (by q)
+
+-- what is said of the contents of the nodes behind a stretch, of their row without the space that has come into it
+comment_left : (ns : List Node) {ahead line : List Content} {xs : List ℕ} {t u : OrderedTree} → Shows ns xs u → SpaceFirst ahead t u → GoesWithout line (contents ns xs) → NoCommentLeft line t
+comment_left ns {line = line} {xs = xs} {t = t} shows space goes = by goes.none_left
+  where
+    by : EndsLine line ⊎ (comment_first (contents ns xs) ≡ false) → NoCommentLeft line t
+    by (inl e) = inl e
+    by (inr e) = inr (comment_as_well space ∙ comment_shown ns shows ∙ e)
+
+line_left : (ns : List Node) {ahead between line : List Content} {xs : List ℕ} {t u : OrderedTree} → Shows ns xs u → SpaceFirst ahead t u → GoesWith between line (contents ns xs) → NoLineLeft between line t
+line_left ns shows space goes = λ a b. line_as_well space ∙ line_shown ns shows ∙ goes.none_left a b
 
 first_below : (ns : List Node) (n : ℕ) (rest : List ℕ) (t : OrderedTree) → Shows ns (n ∷ rest) t → (below : OrderedTree) × (after : OrderedTree) × (t ≡ more (content_at ns n) below after) × Shows ns (children_at ns n) below × Shows ns rest after
 first_below ns n rest _ (shows_more {below = b} {after = a} p q) = (b, a, refl, p, q)
@@ -293,7 +329,7 @@ module _ (o : Options) (old new : List Node) (tree : IsTree old) (after : IsTree
               subst (λ k. ElementRemoved (top_at old n) k p.row_is (followed_by p.front p.rest_of)) (stretch_index away near line rest row edges beside same p)
               (subst (λ t. ElementRemoved (top_at old n) (element_count p.front) t (followed_by p.front p.rest_of)) (sym whole_row)
               (with_no_comma p.front p.rest_of (contents old near) (contents old line) (stretch_apart away near line rest row edges beside same p apart_away) (commas_shown old p.shows_front ∙ none_away) beside ended
-              (ap not (first_shown old p.shows_rest ∙ first)) (stretch_quiet away near line rest row edges beside same p quiet)));
+              (ap not (first_shown old p.shows_rest ∙ first.no_comma)) (stretch_quiet away near line rest row edges beside same p quiet)));
           closes = r.shuts;
           ready_row = followed_by p.front (followed_by p.stretch_of was.was);
           shows_ready =
@@ -302,7 +338,7 @@ module _ (o : Options) (old new : List Node) (tree : IsTree old) (after : IsTree
           seams =
               subst (λ k. RemovedWithSeams (top_at old n) k (followed_by p.front (followed_by p.stretch_of was.was)) (followed_by p.front p.rest_of)) (stretch_index away near line rest row edges beside same p)
               (subst (λ t. RemovedWithSeams (top_at old n) (element_count p.front) t (followed_by p.front p.rest_of)) (sym ready_is)
-              (no_comma p.front was.was p.rest_of (contents old near) (contents old line) beside ended (commas_shown old p.shows_front ∙ none_away) (ap not (comes_as_well was.space ∙ first_shown old p.shows_rest ∙ first)) was.space));
+              (no_comma p.front was.was p.rest_of (contents old near) (contents old line) (stretch_apart away near line rest row edges beside same p apart_away) beside ended (comment_left old p.shows_rest was.space first) (commas_shown old p.shows_front ∙ none_away) (ap not (comes_as_well was.space ∙ first_shown old p.shows_rest ∙ first.no_comma)) was.space));
         }
     outcome _ _ (settled_behind away near between line rest k row edges beside apart_away comma goes quiet back_nodes come) same =
         let p = pieces away near (between ++ k ∷ line) rest row edges beside in
@@ -312,11 +348,11 @@ module _ (o : Options) (old new : List Node) (tree : IsTree old) (after : IsTree
         (parent_there old tree k c (All-head (λ m. parent_at old m ≡ Some c) k line (all_rest (λ m. parent_at old m ≡ Some c) (near ++ n ∷ between) (k ∷ line)
         (subst (AreKids old c) (sym (append_assoc near (n ∷ between) (k ∷ line))) (all_front (λ m. parent_at old m ≡ Some c) (near ++ n ∷ (between ++ k ∷ line)) (rest ++ last ∷ [])
         (all_rest (λ m. parent_at old m ≡ Some c) (open_with ∷ away) ((near ++ n ∷ (between ++ k ∷ line)) ++ (rest ++ last ∷ [])) (subst (AreKids old c) row (all_kids old tree c)))))))).0 in
-        let mid = among_shown old tree between k line p.behind_it k_there (trivia_leaves (contents old between) (between_trivia goes)) p.shows_behind in
+        let mid = among_shown old tree between k line p.behind_it k_there (trivia_leaves (contents old between) (between_trivia goes.leaves)) p.shows_behind in
         let behind_then : (b : OrderedTree) → followed_by p.behind_it b ≡ leaves_then (contents old between) (token_then 0x2C (leaves_then (contents old line) b)) = λ b.
         mid.is b ∙ ap (λ (w : Content). leaves_then (contents old between) (more w (row_below old k) (followed_by mid.after b))) is_k
         ∙ ap (λ (t : OrderedTree). leaves_then (contents old between) (more (token 0x2C) t (followed_by mid.after b))) (leaf_below old tree k k_there (ap is_container is_k))
-        ∙ ap (λ (t : OrderedTree). leaves_then (contents old between) (token_then 0x2C t)) (leaves_shown old tree line mid.after b (trivia_leaves (contents old line) (line_trivia goes)) mid.shown) in
+        ∙ ap (λ (t : OrderedTree). leaves_then (contents old between) (token_then 0x2C t)) (leaves_shown old tree line mid.after b (trivia_leaves (contents old line) (line_trivia goes.leaves)) mid.shown) in
         let behind_is : followed_by p.behind_it p.rest_of ≡ leaves_then (contents old between) (token_then 0x2C (leaves_then (contents old line) p.rest_of)) = behind_then p.rest_of in
         let was : Unspaced old back_nodes (leaves p.front) p.rest_of = unspaced old tree o p.shows_front p.whole_front (come_inside old open_with (opening kind) opens come) p.rest_of p.shows_rest p.whole_rest in
         let ready_is : followed_by p.front (followed_by p.stretch_of was.was) ≡ followed_by p.front (among (contents old near) (top_at old n) (contents old between) (token_then 0x2C (leaves_then (contents old line) was.was))) =
@@ -332,7 +368,7 @@ module _ (o : Options) (old new : List Node) (tree : IsTree old) (after : IsTree
           leaves =
               subst (λ j. ElementRemoved (top_at old n) j p.row_is (followed_by p.front p.rest_of)) (stretch_index away near (between ++ k ∷ line) rest row edges beside same p)
               (subst (λ t. ElementRemoved (top_at old n) (element_count p.front) t (followed_by p.front p.rest_of)) (sym whole_row)
-              (with_comma_behind p.front p.rest_of (contents old near) (contents old between) (contents old line) (stretch_apart away near (between ++ k ∷ line) rest row edges beside same p apart_away) beside goes
+              (with_comma_behind p.front p.rest_of (contents old near) (contents old between) (contents old line) (stretch_apart away near (between ++ k ∷ line) rest row edges beside same p apart_away) beside goes.leaves
               (stretch_quiet away near (between ++ k ∷ line) rest row edges beside same p quiet)));
           closes = r.shuts;
           ready_row = followed_by p.front (followed_by p.stretch_of was.was);
@@ -343,7 +379,7 @@ module _ (o : Options) (old new : List Node) (tree : IsTree old) (after : IsTree
           seams =
               subst (λ j. RemovedWithSeams (top_at old n) j (followed_by p.front (followed_by p.stretch_of was.was)) (followed_by p.front p.rest_of)) (stretch_index away near (between ++ k ∷ line) rest row edges beside same p)
               (subst (λ t. RemovedWithSeams (top_at old n) (element_count p.front) t (followed_by p.front p.rest_of)) (sym ready_is)
-              (comma_behind p.front was.was p.rest_of (contents old near) (contents old between) (contents old line) beside goes was.space));
+              (comma_behind p.front was.was p.rest_of (contents old near) (contents old between) (contents old line) (stretch_apart away near (between ++ k ∷ line) rest row edges beside same p apart_away) beside goes.leaves (line_left old p.shows_rest was.space goes) was.space));
         }
     outcome _ _ (settled_before away mid near line rest {k = k} row edges beside apart_mid none_mid comma ended first far close mid_nodes back_nodes come_mid come) loses =
         let ahead : List ℕ = away ++ k ∷ mid in
@@ -400,7 +436,7 @@ module _ (o : Options) (old new : List Node) (tree : IsTree old) (after : IsTree
           leaves =
               subst (λ j. ElementRemoved (top_at old n) j p.row_is left) counts
               (subst (λ t. ElementRemoved (top_at old n) (element_count two.0 + element_count one.after) t left) (sym whole_row)
-              (with_comma_before two.0 one.after p.rest_of (contents old near) (contents old line) mid_apart (commas_shown old one.shown ∙ none_mid) beside ended (ap not (first_shown old p.shows_rest ∙ first))
+              (with_comma_before two.0 one.after p.rest_of (contents old near) (contents old line) mid_apart (commas_shown old one.shown ∙ none_mid) beside ended (ap not (first_shown old p.shows_rest ∙ first.no_comma))
               (meet_bare old o two.3 whole_away shows_back (whole_joined o one.after p.rest_of whole_mid p.whole_rest) ∙ quiet_inside old open_with away (mid ++ back) far)
               (meet_bare old o one.shown whole_mid p.shows_rest p.whole_rest ∙ close)));
           closes = r.shuts;
@@ -412,6 +448,6 @@ module _ (o : Options) (old new : List Node) (tree : IsTree old) (after : IsTree
           seams =
               subst (λ j. RemovedWithSeams (top_at old n) j (followed_by ready_front (followed_by p.stretch_of was.was)) left) ready_counts
               (subst (λ t. RemovedWithSeams (top_at old n) (element_count two.0 + element_count was_mid.was) t left) (sym ready_is)
-              (comma_before two.0 was_mid.was was.was one.after p.rest_of (contents old near) (contents old line) beside ended (free_of_commas was_mid.space ∙ commas_shown old one.shown ∙ none_mid)
-              (ap not (comes_as_well was.space ∙ first_shown old p.shows_rest ∙ first)) was_mid.space was.space));
+              (comma_before two.0 was_mid.was was.was one.after p.rest_of (contents old near) (contents old line) (apart_as_well was_mid.space (token 0x2C) none ∙ mid_apart) beside ended (comment_left old p.shows_rest was.space first) (free_of_commas was_mid.space ∙ commas_shown old one.shown ∙ none_mid)
+              (ap not (comes_as_well was.space ∙ first_shown old p.shows_rest ∙ first.no_comma)) was_mid.space was.space));
         }

@@ -1,5 +1,5 @@
 -- What leaves a row with an element, in the row of a container with its brackets: a stretch, and a comma in it, before it, or none.
-use Rattle.std.proofs.Common.{◌≡◌, ℕ, ◌+◌, ◌==◌, Bool, true, false, not, ◌||◌, cond, List, [], ◌∷◌, ◌++◌, reverse, take, drop, Option, Some, None, IsTrue, if◌then◌else◌, refl, sym, ap, subst, ◌∙◌}
+use Rattle.std.proofs.Common.{◌≡◌, ◌⊎◌, ℕ, ◌+◌, ◌==◌, Bool, true, false, not, ◌||◌, cond, List, [], ◌∷◌, ◌++◌, reverse, take, drop, Option, Some, None, IsTrue, if◌then◌else◌, refl, sym, ap, subst, ◌∙◌}
 use Rattle.std.proofs.lemmas.List.{append_assoc, map-append, reverse-append, reverse-reverse}
 use Rattle.std.proofs.lemmas.List.Folds.{find-append}
 use Rattle.std.specs.List.{find}
@@ -14,9 +14,10 @@ use Rattle.jsonc_sound.specs.Leaving.{AreInlineTrivia, IsRestOfLine, LeavesBehin
 use Rattle.jsonc_sound.proofs.RowParts.{line_trivia, rest_trivia}
 use Rattle.jsonc_edit.specs.remove.Leaving.{comma_before, comma_gone, comma_unless, ends_line_at, first_gone, last_gone, last_past, line_end_at, newline_there}
 use Rattle.jsonc_layout.specs.nodes.Comments.{first_not_inline_trivia}
-use Rattle.jsonc_edit.proofs.lemmas.remove.Contents.{apart, no_commas, comma_first, apart_behind, apart_rest, first_past, no_commas_rest}
+use Rattle.jsonc_edit.proofs.lemmas.remove.Contents.{GoesWith, GoesWithout, apart, no_commas, comma_first, comment_first, line_first, apart_behind, apart_rest, first_past, no_commas_rest}
+use Rattle.jsonc_edit.specs.SeamRemovals.{EndsLine}
 use Rattle.jsonc_edit.proofs.lemmas.remove.Places.{row_split, before_in, after_in, final, final_last, final_behind, up_to_final}
-use Rattle.jsonc_edit.proofs.lemmas.remove.Stretches.{contents, Near, near_of, Line, no_line, line_of, Ended, ended_of, line_through, beside_between, Past, past_of, comma_past, none_past, Ahead, ahead_of, comma_ahead, none_ahead}
+use Rattle.jsonc_edit.proofs.lemmas.remove.Stretches.{contents, Near, near_of, Line, no_line, WholeLine, line_of, newline_comes, Ended, ended_of, line_through, beside_between, Past, past_of, comma_past, none_past, Ahead, ahead_of, comma_ahead, none_ahead}
 
 -- a token, but no comma: what a bracket is
 abbrev pub is_end : Content → Bool
@@ -88,17 +89,17 @@ pub data Going (ns : List Node) (c n open_with last from to : ℕ) : Option ℕ 
   with_behind : (away near between line rest : List ℕ) (k : ℕ)
       → children_at ns c ≡ (open_with ∷ away) ++ ((near ++ n ∷ (between ++ k ∷ line)) ++ (rest ++ last ∷ []))
       → Edges (near ++ n ∷ (between ++ k ∷ line)) from to → AreInlineTrivia (contents ns near) → IsTrue (apart (contents ns away))
-      → IsTrue (is_comma_at ns k) → LeavesBehind (contents ns between) (contents ns line)
+      → IsTrue (is_comma_at ns k) → GoesWith (contents ns between) (contents ns line) (contents ns (rest ++ last ∷ []))
       → Going ns c n open_with last from to None
   with_before : (away mid near line rest : List ℕ) {k : ℕ}
       → children_at ns c ≡ ((open_with ∷ away) ++ k ∷ mid) ++ ((near ++ n ∷ line) ++ (rest ++ last ∷ []))
       → Edges (near ++ n ∷ line) from to → AreInlineTrivia (contents ns near) → IsTrue (apart (content_at ns k ∷ contents ns mid)) → IsTrue (no_commas (contents ns mid))
-      → IsTrue (is_comma_at ns k) → IsRestOfLine (contents ns line) → comma_first (contents ns (rest ++ last ∷ [])) ≡ false
+      → IsTrue (is_comma_at ns k) → IsRestOfLine (contents ns line) → GoesWithout (contents ns line) (contents ns (rest ++ last ∷ []))
       → Going ns c n open_with last from to (Some k)
   with_none : (away near line rest : List ℕ)
       → children_at ns c ≡ (open_with ∷ away) ++ ((near ++ n ∷ line) ++ (rest ++ last ∷ []))
       → Edges (near ++ n ∷ line) from to → AreInlineTrivia (contents ns near) → IsTrue (apart (contents ns away)) → IsTrue (no_commas (contents ns away))
-      → IsRestOfLine (contents ns line) → comma_first (contents ns (rest ++ last ∷ [])) ≡ false
+      → IsRestOfLine (contents ns line) → GoesWithout (contents ns line) (contents ns (rest ++ last ∷ []))
       → Going ns c n open_with last from to None
 
 -- what ends a line behind a node that is no end is none
@@ -108,6 +109,17 @@ line_last ns n [] (x ∷ []) to e f t = let wrong : [] ≡ to ∷ [] = cc in cc
 line_last ns n [] (x ∷ y ∷ init) to e f t = let wrong : [] ≡ y ∷ (init ++ to ∷ []) = cc in cc
 line_last ns n (m ∷ line) [] to e f t = let wrong : m ∷ line ≡ [] = cc in cc
 line_last ns n (m ∷ line) (x ∷ init) to e f t = let same : m ∷ line ≡ init ++ to ∷ [] = cc in line_last ns m line init to same (trivia_no_end (content_at ns m) t.0) t.1
+
+line_past : (xs : List Content) (x : Content) (rest : List Content) → AreInlineTrivia xs → IsTrue (is_comma x) → line_first (xs ++ x ∷ rest) ≡ false
+line_past [] (token c) rest h comma = refl
+line_past [] x rest h comma = cc
+line_past (Content.whitespace s ∷ xs) x rest h comma = line_past xs x rest h.1 comma
+line_past (Content.comment s ∷ xs) x rest h comma = line_past xs x rest h.1 comma
+line_past (y ∷ xs) x rest h comma = cc
+
+none_empty : (xs : List Content) (x : Content) → xs ++ x ∷ [] ≡ [] → ⊥
+none_empty [] x e = cc
+none_empty (y ∷ xs) x e = cc
 
 find_none : (ns : List Node) (xs : List ℕ) → AreInlineTrivia (contents ns xs) → find (is_comma_at ns) (reverse xs) ≡ None
 find_none ns [] h = refl
@@ -190,21 +202,32 @@ module _ (ns : List Node) (tree : IsTree ns) (c n open_with last : ℕ) (inner :
     behind_k : children_at ns c ≡ (pre ++ n ∷ between) ++ k ∷ after
     behind_k = split ∙ ap (λ (l : List ℕ). pre ++ n ∷ l) is ∙ sym (append_assoc pre (n ∷ between) (k ∷ after))
 
-    from_line : (to : ℕ) (l : Line ns after k to) → LeavesBehind (contents ns between) (contents ns l.line) → Goes to None
-    from_line to l goes =
+    from_line : (to : ℕ) (l : Line ns after k to) → LeavesBehind (contents ns between) (contents ns l.line) → (AreInlineTrivia (contents ns between) → contents ns l.line ≡ [] → line_first (contents ns l.rest) ≡ false) → Goes to None
+    from_line to l goes left =
         let behind : post ≡ (between ++ k ∷ l.line) ++ l.rest = is ∙ ap (λ (r : List ℕ). between ++ k ∷ r) l.split ∙ sym (append_assoc between (k ∷ l.line) l.rest) in
         let ended : n ∷ (between ++ k ∷ l.line) ≡ (n ∷ (between ++ l.init)) ++ to ∷ [] = ap (λ (r : List ℕ). n ∷ (between ++ r)) l.last_is ∙ ap (λ (r : List ℕ). n ∷ r) (sym (append_assoc between l.init (to ∷ []))) in
         let rest = rest_from (between ++ k ∷ l.line) l.rest (n ∷ (between ++ l.init)) to behind ended (line_last ns k l.line l.init to l.last_is k_no_end (line_trivia goes)) in
         with_behind away near between l.line rest.0 k
         (row_with (between ++ k ∷ l.line) l.rest behind ∙ ap (λ (x : List ℕ). x ++ ((near ++ n ∷ (between ++ k ∷ l.line)) ++ l.rest)) away_open.1 ∙ ap (λ (x : List ℕ). (open_with ∷ away) ++ ((near ++ n ∷ (between ++ k ∷ l.line)) ++ x)) rest.1)
-        (edges (between ++ k ∷ l.line) (n ∷ (between ++ l.init)) to ended) around.beside away_apart comma goes
+        (edges (between ++ k ∷ l.line) (n ∷ (between ++ l.init)) to ended) around.beside away_apart comma
+        (record { leaves = goes; none_left = λ a b. ap (λ (x : List ℕ). line_first (contents ns x)) (sym rest.1) ∙ left a b })
 
     -- the comma alone leaves, or the rest of its line
-    comma_goes : Goes k None
-    comma_goes = from_line k (no_line ns after k) (comma_alone (contents ns between) trivia)
+    comma_goes : (AreInlineTrivia (contents ns between) → line_first (contents ns after) ≡ false) → Goes k None
+    comma_goes left = from_line k (no_line ns after k) (comma_alone (contents ns between) trivia) (λ a b. left a)
 
     afters_k : siblings_after ns k ≡ after
     afters_k = after_in ns tree c (pre ++ n ∷ between) after k behind_k
+
+    -- on a line that has not ended before the comma the comma is first past whitespace and comments
+    ended_before : ends_line_at ns n ≡ true → AreInlineTrivia (contents ns between) → ⊥
+    ended_before e beside =
+        let first : line_first (contents ns (between ++ k ∷ after)) ≡ true = sym (newline_comes ns (between ++ k ∷ after)) ∙ ap (λ (l : List ℕ). newline_there ns (first_not_inline_trivia ns l)) (sym (afters ∙ is)) ∙ e in
+        let split_up : contents ns (between ++ k ∷ after) ≡ contents ns between ++ contents ns (k ∷ after) = map-append (content_at ns) between (k ∷ after) in
+        true_false (sym (ap line_first split_up) ∙ first) (line_past (contents ns between) (content_at ns k) (contents ns after) beside comma)
+
+    line_stays : ends_line_at ns k ≡ false → line_first (contents ns after) ≡ false
+    line_stays f = sym (newline_comes ns after) ∙ ap (λ (l : List ℕ). newline_there ns (first_not_inline_trivia ns l)) (sym afters_k) ∙ f
 
     line_goes : ends_line_at ns n ≡ false → ends_line_at ns k ≡ true → Goes (line_end_at ns k) None
     line_goes e f =
@@ -212,19 +235,23 @@ module _ (ns : List Node) (tree : IsTree ns) (c n open_with last : ℕ) (inner :
         let whole : Ended ns after (line_end_at ns k) = subst (λ (l : List ℕ). Ended ns l (line_end_at ns k)) afters_k (ended_of ns k (siblings_after ns k) f) in
         from_line (line_end_at ns k) (line_through ns k whole)
         (subst (LeavesBehind (contents ns between)) (sym (map-append (content_at ns) whole.line (line_end_at ns k ∷ []))) (comma_and_line (contents ns between) (contents ns whole.line) (content_at ns (line_end_at ns k)) near_k whole.beside whole.newline))
+        (λ a b. absurd (none_empty (contents ns whole.line) (content_at ns (line_end_at ns k)) (sym (map-append (content_at ns) whole.line (line_end_at ns k ∷ [])) ∙ b)))
 
     goes_behind : Goes (last_past ns n (Some k)) None
     goes_behind = by (ends_line_at ns n) refl (ends_line_at ns k) refl
       where
         by : (a : Bool) → ends_line_at ns n ≡ a → (b : Bool) → ends_line_at ns k ≡ b → Goes (if a || not b then k else line_end_at ns k) None
-        by true e b f = comma_goes
+        by true e b f = comma_goes (λ a. absurd (ended_before e a))
         by false e true f = line_goes e f
-        by false e false f = comma_goes
+        by false e false f = comma_goes (λ a. line_stays f)
 
   -- none does
   module _ (none_behind : comma_first (contents ns post) ≡ false) where
+    all_line : WholeLine ns post n (line_end_at ns n)
+    all_line = subst (λ r. WholeLine ns r n (line_end_at ns n)) afters (line_of ns n (siblings_after ns n))
+
     line : Line ns post n (line_end_at ns n)
-    line = subst (λ r. Line ns r n (line_end_at ns n)) afters (line_of ns n (siblings_after ns n))
+    line = all_line.stretch
 
     trivia_line : AreTrivia (contents ns line.line)
     trivia_line = rest_trivia (contents ns line.line) line.ended
@@ -236,6 +263,10 @@ module _ (ns : List Node) (tree : IsTree ns) (c n open_with last : ℕ) (inner :
     none_past_line =
         ap (λ l. comma_first (contents ns l)) (sym rest.1) ∙ sym (first_past (contents ns line.line) (contents ns line.rest) trivia_line) ∙ ap comma_first (sym (map-append (content_at ns) line.line line.rest))
         ∙ ap (λ l. comma_first (contents ns l)) (sym line.split) ∙ none_behind
+
+    goes_past : GoesWithout (contents ns line.line) (contents ns (rest.0 ++ last ∷ []))
+    unfolding line all_line
+    goes_past = record { no_comma = none_past_line; none_left = subst (λ (l : List ℕ). EndsLine (contents ns line.line) ⊎ (comment_first (contents ns l) ≡ false)) rest.1 all_line.none_left }
 
     whole : children_at ns c ≡ around.away ++ ((near ++ n ∷ line.line) ++ (rest.0 ++ last ∷ []))
     whole = row_with line.line line.rest line.split ∙ ap (λ (x : List ℕ). around.away ++ ((near ++ n ∷ line.line) ++ x)) rest.1
@@ -250,11 +281,11 @@ module _ (ns : List Node) (tree : IsTree ns) (c n open_with last : ℕ) (inner :
     goes_ahead : (o : Option ℕ) → Ahead ns around.away o → Goes (line_end_at ns n) o
     goes_ahead _ (none_ahead h) =
         with_none away near line.line rest.0 (whole ∙ ap (λ (x : List ℕ). x ++ ((near ++ n ∷ line.line) ++ (rest.0 ++ last ∷ []))) away_open.1) (edges line.line line.init (line_end_at ns n) line.last_is) around.beside away_apart
-        (no_commas_rest (content_at ns open_with) (contents ns away) (subst (λ l. IsTrue (no_commas (contents ns l))) away_open.1 h)) line.ended none_past_line
+        (no_commas_rest (content_at ns open_with) (contents ns away) (subst (λ l. IsTrue (no_commas (contents ns l))) away_open.1 h)) line.ended goes_past
     goes_ahead _ (comma_ahead front mid {k = k} e comma h) =
         let first_of = begins_with ends front mid away k open_with (sym e ∙ away_open.1) (comma_no_end (content_at ns k) comma) opens in
         with_before first_of.0 mid near line.line rest.0 (whole ∙ ap (λ (x : List ℕ). x ++ ((near ++ n ∷ line.line) ++ (rest.0 ++ last ∷ []))) (e ∙ ap (λ (x : List ℕ). x ++ k ∷ mid) first_of.1)) (edges line.line line.init (line_end_at ns n) line.last_is)
-        around.beside (subst (λ b. IsTrue b) (ap apart (map-append (content_at ns) front (k ∷ mid)) ∙ apart_behind (contents ns front) (content_at ns k) (contents ns mid)) (subst (λ l. IsTrue (apart (contents ns l))) e around.apart)) h comma line.ended none_past_line
+        around.beside (subst (λ b. IsTrue b) (ap apart (map-append (content_at ns) front (k ∷ mid)) ∙ apart_behind (contents ns front) (content_at ns k) (contents ns mid)) (subst (λ l. IsTrue (apart (contents ns l))) e around.apart)) h comma line.ended goes_past
 
     goes_none : Goes (last_past ns n None) (comma_unless None (comma_before ns n))
     goes_none = goes_ahead (find (is_comma_at ns) (siblings_before ns n)) ahead

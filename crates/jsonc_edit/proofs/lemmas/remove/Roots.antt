@@ -1,5 +1,5 @@
 -- The value of a sound document is taken out of the root.
-use Rattle.std.proofs.Common.{◌≡◌, ℕ, ◌+◌, ◌<◌, Bool, true, false, not, ◌&&◌, cond, List, [], ◌∷◌, ◌++◌, length, reverse, take, drop, slice_index, Option, Some, None, IsTrue, if◌then◌else◌, inl, inr, refl, sym, ap, subst, ◌∙◌, arith, append-nil}
+use Rattle.std.proofs.Common.{◌≡◌, ◌⊎◌, ℕ, ◌+◌, ◌<◌, Bool, true, false, not, ◌&&◌, cond, List, [], ◌∷◌, ◌++◌, length, reverse, take, drop, slice_index, Option, Some, None, IsTrue, if◌then◌else◌, inl, inr, refl, sym, ap, subst, ◌∙◌, arith, append-nil}
 use Rattle.std.proofs.lemmas.Bool.{cases_Bool}
 use Rattle.std.proofs.lemmas.List.{append_assoc, length-append, map-append, reverse-reverse}
 use Rattle.std.proofs.lemmas.List.Elements.{All-nil, All-cons, All-append, All-from_get_or}
@@ -35,14 +35,15 @@ use Rattle.jsonc_edit.proofs.Elements.{stands_at}
 use Rattle.jsonc_edit.proofs.NodesKept.{top_stays, tree_stays}
 use Rattle.jsonc_edit.proofs.Uniqueness.{element_parent}
 use Rattle.jsonc_edit.proofs.ChangesUpward.{Shows-row_below, apart_kept, document_is, root_row}
-use Rattle.jsonc_edit.specs.remove.Laws.{ValueTaken}
+use Rattle.jsonc_edit.specs.SeamRemovals.{EndsLine, NoCommentLeft}
+use Rattle.jsonc_edit.specs.remove.Laws.{StaysNone, ValueTaken}
 use Rattle.jsonc_edit.specs.remove.Leaving.{comes_to, comma_gone, first_gone, last_gone, last_past, line_end_at}
 use Rattle.jsonc_edit.specs.remove.Removed.{comma_in, space_needed_at_comma, space_needed_at_stretch, is_hollow, is_hollow_as, hollow_from, hollow_to, IsTakenFrom, LosesChild, TakesElement}
-use Rattle.jsonc_edit.proofs.lemmas.remove.Contents.{apart, apart_shown}
+use Rattle.jsonc_edit.proofs.lemmas.remove.Contents.{apart, comment_first, apart_shown, comment_shown}
 use Rattle.jsonc_edit.proofs.lemmas.remove.Places.{row_split, before_in, after_in, place_in}
 use Rattle.jsonc_edit.proofs.lemmas.remove.PrintedStretches.{find_holds}
 use Rattle.jsonc_edit.proofs.lemmas.remove.Spaces.{AreSame, contents_same, front_same, back_same, tail_same}
-use Rattle.jsonc_edit.proofs.lemmas.remove.Stretches.{contents, Near, near_of, Line, line_of}
+use Rattle.jsonc_edit.proofs.lemmas.remove.Stretches.{contents, Near, near_of, WholeLine, line_of}
 use Rattle.jsonc_edit.proofs.lemmas.remove.Trees.{trivia_leaves, beside_leaves, blank_leaves, leaves_shown, among_shown, AreKids, all_kids}
 use Rattle.jsonc_edit.proofs.lemmas.remove.RemovedChildren.{Rewoven, rewoven_next, rewoven_changed, stretch_out}
 use Rattle.jsonc_edit.proofs.LeafKinds.{trivia_is}
@@ -120,6 +121,7 @@ record Parts (ns : List Node) (n : ℕ) : Type 0 where
   apart_away : IsTrue (apart (contents ns away))
   trivia_away : AreTrivia (contents ns away)
   ended : IsRestOfLine (contents ns line)
+  none_left : EndsLine (contents ns line) ⊎ (comment_first (contents ns rest) ≡ false)
   first_is : near ++ n ∷ line ≡ first_gone ns n ∷ tail
   last_is : near ++ n ∷ line ≡ init ++ last_gone ns n ∷ []
 
@@ -148,13 +150,13 @@ module _ (o : Options) (ns : List Node) (tree : IsTree ns) (n : ℕ) (said : par
   no_comma : trailing_comma_at ns n ≡ None
   no_comma = ap (λ l. if_comma ns (find (is_no_trivia_at ns) l)) (after_in ns tree 0 pre post n split) ∙ ap (if_comma ns) (none_found ns post trivia_both.1)
 
-  line_is : Line ns post n (last_gone ns n)
-  line_is = subst (λ w. Line ns post n (last_past ns n w)) (sym no_comma) (subst (λ r. Line ns r n (line_end_at ns n)) (after_in ns tree 0 pre post n split) (line_of ns n (siblings_after ns n)))
+  line_is : WholeLine ns post n (last_gone ns n)
+  line_is = subst (λ w. WholeLine ns post n (last_past ns n w)) (sym no_comma) (subst (λ r. WholeLine ns r n (line_end_at ns n)) (after_in ns tree 0 pre post n split) (line_of ns n (siblings_after ns n)))
 
   parts : Parts ns n
   parts =
       let a = around in
-      let l = line_is in
+      let l = line_is.stretch in
       record {
         away = a.away;
         near = a.near;
@@ -169,6 +171,7 @@ module _ (o : Options) (ns : List Node) (tree : IsTree ns) (n : ℕ) (said : par
         apart_away = a.apart;
         trivia_away = trivia_front (contents ns a.away) (contents ns a.near) (subst AreTrivia (ap (contents ns) a.split ∙ map-append (content_at ns) a.away a.near) trivia_both.0);
         ended = l.ended;
+        none_left = line_is.none_left;
         first_is = sym (append_assoc a.near (n ∷ []) l.line) ∙ ap (λ k. k ++ l.line) a.first_is;
         last_is = ap (λ (k : List ℕ). a.near ++ k) l.last_is ∙ sym (append_assoc a.near l.init (last_gone ns n ∷ []));
       }
@@ -253,6 +256,11 @@ module _ (o : Options) (old new : List Node) (n : ℕ) (tree : IsTree old) (afte
   ended : IsRestOfLine (contents ready p.line)
   ended = subst IsRestOfLine (sym (contents_same old ready p.line (tail_same old ready n p.line (back_same old ready p.near (n ∷ p.line) same_stretch)))) p.ended
 
+  none_left : EndsLine (contents ready p.line) ⊎ (comment_first (contents ready p.rest) ≡ false)
+  none_left =
+      subst (λ l. EndsLine l ⊎ (comment_first (contents ready p.rest) ≡ false)) (sym (contents_same old ready p.line (tail_same old ready n p.line (back_same old ready p.near (n ∷ p.line) same_stretch))))
+      (subst (λ l. EndsLine (contents old p.line) ⊎ (comment_first l ≡ false)) (sym (contents_same old ready p.rest (back_same old ready (p.near ++ n ∷ p.line) p.rest (back_same old ready p.away ((p.near ++ n ∷ p.line) ++ p.rest) same_parts)))) p.none_left)
+
   n_there : n < length ready
   n_there = omega (arith, (parent_there old tree n 0 said).0, f.prepared.keeps.len)
 
@@ -309,7 +317,11 @@ module _ (o : Options) (old new : List Node) (n : ℕ) (tree : IsTree old) (afte
       ∙ ap (λ (t : OrderedTree). followed_by one.0 (leaves_then (contents ready p.near) (more (content_at ready n) (row_below ready n) t))) (leaves_shown ready f.prepared.tree p.line mid.after two.1 (trivia_leaves (contents ready p.line) (rest_trivia (contents ready p.line) ended)) mid.shown) in
       let left : OrderedTree = followed_by one.0 two.1 in
       let ends : IsTrue (ends_apart one.0) = apart_shown ready one.3 ∙ ap apart same_away ∙ p.apart_away in
-      let leaves : ValueRemoved (top_at ready n) (row_below ready 0) left = subst (λ t. ValueRemoved (top_at ready n) t left) (sym row_is) (value_leaves one.0 two.1 (contents ready p.near) (contents ready p.line) ends beside ended) in
+      let stays : (t : OrderedTree) → Shows ready p.rest t → EndsLine (contents ready p.line) ⊎ (comment_first (contents ready p.rest) ≡ false) → NoCommentLeft (contents ready p.line) t = λ t shows h. elim h [ inl e ↦ inl e | inr e ↦ inr (comment_shown ready shows ∙ e) ] in
+      let gone : (leaves : ValueRemoved (top_at ready n) (row_below ready 0) left) × StaysNone leaves =
+      subst (λ t. (leaves : ValueRemoved (top_at ready n) t left) × StaysNone leaves) (sym row_is) (value_leaves one.0 two.1 (contents ready p.near) (contents ready p.line) ends beside ended, stays two.1 two.4 none_left) in
+      let named : (leaves : ValueRemoved (top_at old n) (row_below ready 0) left) × StaysNone leaves =
+      subst (λ (w : Top). (leaves : ValueRemoved w (row_below ready 0) left) × StaysNone leaves) (top_stays old ready tree f.prepared.keeps f.prepared.tree n (parent_there old tree n 0 said).0) gone in
       record {
         row = row_below ready 0;
         left = left;
@@ -317,6 +329,7 @@ module _ (o : Options) (old new : List Node) (n : ℕ) (tree : IsTree old) (afte
         element = kind_of;
         was = sym (tree_stays old ready tree f.prepared.keeps f.prepared.tree) ∙ sym (document_is ready f.prepared.tree (row_below ready 0) (Shows-row_below ready f.prepared.tree 0 f.prepared.tree.first));
         now = sym (document_is new after (row_below new 0) (Shows-row_below new after 0 after.first));
-        leaves = subst (λ (w : Top). ValueRemoved w (row_below ready 0) left) (top_stays old ready tree f.prepared.keeps f.prepared.tree n (parent_there old tree n 0 said).0) leaves;
+        leaves = named.0;
+        stays = named.1;
         empties = now left (Shows-append ready p.away p.rest one.0 two.1 one.3 two.4);
       }

@@ -12,11 +12,11 @@ use Rattle.jsonc_tree.specs.Tree.{Node, content_at, children_at, IsTree}
 use Rattle.jsonc_layout.proofs.lemmas.nodes.InTree.{All-reverse}
 use Rattle.jsonc_layout.specs.lines.Kinds.{is_array_or_object}
 use Rattle.jsonc_layout.specs.nodes.Kinds.{is_comma, is_comma_at}
-use Rattle.jsonc_sound.specs.Leaving.{AreInlineTrivia, IsRestOfLine, LeavesBehind}
+use Rattle.jsonc_sound.specs.Leaving.{AreInlineTrivia, IsRestOfLine}
 use Rattle.jsonc_edit.specs.Due.{is_other, prints, prints_at, nearest, begins_bare, ends_bare, seen_before, space_needed_between, listed}
 use Rattle.jsonc_edit.specs.Put.{AreSpaced}
 use Rattle.jsonc_edit.specs.remove.Removed.{is_next}
-use Rattle.jsonc_edit.proofs.lemmas.remove.Contents.{apart, no_commas, comma_first, Gains, apart_behind_gains, commas_gains, first_gains}
+use Rattle.jsonc_edit.proofs.lemmas.remove.Contents.{GoesWith, GoesWithout, apart, no_commas, Gains, apart_behind_gains, commas_gains, goes_with_gains, goes_without_gains}
 use Rattle.jsonc_edit.proofs.lemmas.remove.Places.{Come, none_come, one_come, Quiet, OneSpace, one_space, before_in}
 use Rattle.jsonc_edit.proofs.lemmas.remove.Stretches.{contents}
 use Rattle.jsonc_edit.proofs.lemmas.remove.RemovedStretches.{Edges, Going, with_behind, with_before, with_none}
@@ -30,21 +30,21 @@ pub data Settled (ns : List Node) (c n open_with last from to : ℕ) : Option �
   settled_behind : (away near between line rest : List ℕ) (k : ℕ)
       → children_at ns c ≡ (open_with ∷ away) ++ ((near ++ n ∷ (between ++ k ∷ line)) ++ (rest ++ last ∷ []))
       → Edges (near ++ n ∷ (between ++ k ∷ line)) from to → AreInlineTrivia (contents ns near) → IsTrue (apart (contents ns away))
-      → IsTrue (is_comma_at ns k) → LeavesBehind (contents ns between) (contents ns line)
+      → IsTrue (is_comma_at ns k) → GoesWith (contents ns between) (contents ns line) (contents ns (rest ++ last ∷ []))
       → Quiet ns (open_with ∷ away) (rest ++ last ∷ [])
       → (back : List ℕ) → Come ns (open_with ∷ away) back (rest ++ last ∷ [])
       → Settled ns c n open_with last from to None ((open_with ∷ away) ++ ((near ++ n ∷ (between ++ k ∷ line)) ++ back))
   settled_before : (away mid near line rest : List ℕ) {k : ℕ}
       → children_at ns c ≡ ((open_with ∷ away) ++ k ∷ mid) ++ ((near ++ n ∷ line) ++ (rest ++ last ∷ []))
       → Edges (near ++ n ∷ line) from to → AreInlineTrivia (contents ns near) → IsTrue (apart (content_at ns k ∷ contents ns mid)) → IsTrue (no_commas (contents ns mid))
-      → IsTrue (is_comma_at ns k) → IsRestOfLine (contents ns line) → comma_first (contents ns (rest ++ last ∷ [])) ≡ false
+      → IsTrue (is_comma_at ns k) → IsRestOfLine (contents ns line) → GoesWithout (contents ns line) (contents ns (rest ++ last ∷ []))
       → Quiet ns (open_with ∷ away) (mid ++ (rest ++ last ∷ [])) → Quiet ns mid (rest ++ last ∷ [])
       → (middle back : List ℕ) → Come ns (open_with ∷ away) middle mid → Come ns ((open_with ∷ away) ++ mid) back (rest ++ last ∷ [])
       → Settled ns c n open_with last from to (Some k) (((open_with ∷ away) ++ k ∷ middle) ++ ((near ++ n ∷ line) ++ back))
   settled_none : (away near line rest : List ℕ)
       → children_at ns c ≡ (open_with ∷ away) ++ ((near ++ n ∷ line) ++ (rest ++ last ∷ []))
       → Edges (near ++ n ∷ line) from to → AreInlineTrivia (contents ns near) → IsTrue (apart (contents ns away)) → IsTrue (no_commas (contents ns away))
-      → IsRestOfLine (contents ns line) → comma_first (contents ns (rest ++ last ∷ [])) ≡ false
+      → IsRestOfLine (contents ns line) → GoesWithout (contents ns line) (contents ns (rest ++ last ∷ []))
       → Quiet ns (open_with ∷ away) (rest ++ last ∷ [])
       → (back : List ℕ) → Come ns (open_with ∷ away) back (rest ++ last ∷ [])
       → Settled ns c n open_with last from to None ((open_with ∷ away) ++ ((near ++ n ∷ line) ++ back))
@@ -154,7 +154,7 @@ module _ (ready : List Node) (tree : IsTree ready) (c n open_with last from to :
 
     module _ (next : Bool) (away mid near line rest : List ℕ) (k : ℕ) (row : children_at ready c ≡ ((open_with ∷ away) ++ k ∷ mid) ++ ((near ++ n ∷ line) ++ (rest ++ last ∷ []))) (edges : Edges (near ++ n ∷ line) from to)
         (beside : AreInlineTrivia (contents ready near)) (apart_mid : IsTrue (apart (content_at ready k ∷ contents ready mid))) (none_mid : IsTrue (no_commas (contents ready mid))) (comma : IsTrue (is_comma_at ready k))
-        (ended : IsRestOfLine (contents ready line)) (first : comma_first (contents ready (rest ++ last ∷ [])) ≡ false) (said : next ≡ is_next (seen_before ready from) (Some k))
+        (ended : IsRestOfLine (contents ready line)) (first : GoesWithout (contents ready line) (contents ready (rest ++ last ∷ []))) (said : next ≡ is_next (seen_before ready from) (Some k))
         (put : AreSpaced ready (listed (if next then None else space_needed_between ready k k) ++ listed (if next then space_needed_between ready k to else space_needed_between ready from to)) spaced) where
       abbrev stretch : List ℕ
       stretch = near ++ n ∷ line
@@ -209,7 +209,7 @@ module _ (ready : List Node) (tree : IsTree ready) (c n open_with last from to :
             settled =
                 subst (Settled spaced c n open_with last from to (Some k)) (sym row)
                 (settled_before away mid near line b.rest b.row edges (subst AreInlineTrivia (same near) beside) (subst (λ l. IsTrue (apart l)) (same (k ∷ mid)) apart_mid) (subst (λ l. IsTrue (no_commas l)) (same mid) none_mid)
-                (subst (λ w. IsTrue (is_comma w)) (sym (b.content k)) comma) (subst IsRestOfLine (same line) ended) (first_gains b.gains ∙ ap comma_first (sym (same back)) ∙ first)
+                (subst (λ w. IsTrue (is_comma w)) (sym (b.content k)) comma) (subst IsRestOfLine (same line) ended) (goes_without_gains b.gains (subst (GoesWithout (contents spaced line)) (same back) (subst (λ l. GoesWithout l (contents ready back)) (same line) first)))
                 (ap (λ o. ends_bare spaced (nearest spaced (reverse (open_with ∷ away))) && begins_bare spaced o) past ∙ b.quiet) (ap (λ o. ends_bare spaced o && begins_bare spaced (nearest spaced (b.rest ++ last ∷ []))) blind) mid back none_come
                 (come_behind spaced (joined_nearest spaced (open_with ∷ away) mid ∙ ap (λ o. option_or o (nearest spaced (reverse (open_with ∷ away)))) blind) b.come));
           }
@@ -261,7 +261,7 @@ module _ (ready : List Node) (tree : IsTree ready) (c n open_with last from to :
                 subst (Settled spaced c n open_with last from to (Some k)) (sym row)
                 (settled_before away a.given near line b.rest b.row edges (subst AreInlineTrivia (same near) beside)
                 (apart_behind_gains (content_at spaced k) gains ∙ subst (λ l. IsTrue (apart l)) (same (k ∷ mid)) apart_mid) (commas_gains gains ∙ subst (λ l. IsTrue (no_commas l)) (same mid) none_mid)
-                (subst (λ w. IsTrue (is_comma w)) (sym (content k)) comma) (subst IsRestOfLine (same line) ended) (first_gains b.gains ∙ ap comma_first (sym (same back)) ∙ first)
+                (subst (λ w. IsTrue (is_comma w)) (sym (content k)) comma) (subst IsRestOfLine (same line) ended) (goes_without_gains b.gains (subst (GoesWithout (contents spaced line)) (same back) (subst (λ l. GoesWithout l (contents ready back)) (same line) first)))
                 (ap (λ o. ends_bare spaced (nearest spaced (reverse (open_with ∷ away))) && begins_bare spaced o) past ∙ front_quiet) b.quiet mid back (come_same now spaced b.content b.ends b.begins a.come)
                 (come_behind spaced (joined_nearest spaced (open_with ∷ away) a.given ∙ ap (λ o. option_or o (nearest spaced (reverse (open_with ∷ away)))) given_seen ∙ sym given_seen) b.come));
           }
@@ -292,7 +292,8 @@ module _ (ready : List Node) (tree : IsTree ready) (c n open_with last from to :
           settled =
               subst (Settled spaced c n open_with last from to None) (sym row)
               (settled_behind away near between line b.rest k b.row edges (subst AreInlineTrivia (same near) beside) (subst (λ l. IsTrue (apart l)) (same away) apart_away)
-              (subst (λ w. IsTrue (is_comma w)) (sym (b.content k)) comma) (subst (LeavesBehind (contents spaced between)) (same line) (subst (λ l. LeavesBehind l (contents ready line)) (same between) goes)) b.quiet (rest ++ last ∷ []) b.come);
+              (subst (λ w. IsTrue (is_comma w)) (sym (b.content k)) comma)
+              (goes_with_gains b.gains (subst (GoesWith (contents spaced between) (contents spaced line)) (same (rest ++ last ∷ [])) (subst (λ l. GoesWith (contents spaced between) l (contents ready (rest ++ last ∷ []))) (same line) (subst (λ l. GoesWith l (contents ready line) (contents ready (rest ++ last ∷ []))) (same between) goes)))) b.quiet (rest ++ last ∷ []) b.come);
         }
     is_settled next _ (with_none away near line rest row edges beside apart_away none_away ended first) put =
         let b = without (open_with ∷ away) near line rest row edges put in
@@ -303,7 +304,7 @@ module _ (ready : List Node) (tree : IsTree ready) (c n open_with last from to :
           settled =
               subst (Settled spaced c n open_with last from to None) (sym row)
               (settled_none away near line b.rest b.row edges (subst AreInlineTrivia (same near) beside) (subst (λ l. IsTrue (apart l)) (same away) apart_away) (subst (λ l. IsTrue (no_commas l)) (same away) none_away) (subst IsRestOfLine (same line) ended)
-              (first_gains b.gains ∙ ap comma_first (sym (same (rest ++ last ∷ []))) ∙ first) b.quiet (rest ++ last ∷ []) b.come);
+              (goes_without_gains b.gains (subst (GoesWithout (contents spaced line)) (same (rest ++ last ∷ [])) (subst (λ l. GoesWithout l (contents ready (rest ++ last ∷ []))) (same line) first))) b.quiet (rest ++ last ∷ []) b.come);
         }
     is_settled next _ (with_before away mid near line rest {k = k} row edges beside apart_mid none_mid comma ended first) (said, put) =
         either next away mid near line rest k row edges beside apart_mid none_mid comma ended first said put (nearest ready (reverse mid)) refl

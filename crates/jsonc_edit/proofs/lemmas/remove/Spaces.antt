@@ -7,11 +7,11 @@ use Rattle.jsonc_tree.specs.Content.{Content, array, object}
 use Rattle.jsonc_tree.specs.Tree.{Node, content_at, children_at, IsTree}
 use Rattle.jsonc_layout.specs.lines.Kinds.{is_array_or_object}
 use Rattle.jsonc_layout.specs.nodes.Kinds.{is_comma}
-use Rattle.jsonc_sound.specs.Leaving.{AreInlineTrivia, IsRestOfLine, LeavesBehind}
+use Rattle.jsonc_sound.specs.Leaving.{AreInlineTrivia, IsRestOfLine}
 use Rattle.jsonc_sound.specs.Adjacent.{or_else}
 use Rattle.jsonc_edit.specs.Due.{prints, prints_at, nearest, begins_bare, ends_bare, seen_before, seen_behind, behind_holder, behind_property, space_needed_between, prints_within}
 use Rattle.jsonc_edit.specs.Put.{AreSpaced}
-use Rattle.jsonc_edit.proofs.lemmas.remove.Contents.{apart, no_commas, comma_first}
+use Rattle.jsonc_edit.proofs.lemmas.remove.Contents.{GoesWith, GoesWithout, apart, no_commas}
 use Rattle.jsonc_edit.proofs.lemmas.remove.Places.{parent_in, before_in, after_in}
 use Rattle.jsonc_edit.proofs.lemmas.remove.Stretches.{contents}
 use Rattle.jsonc_edit.proofs.lemmas.remove.RemovedStretches.{Going, with_behind, with_before, with_none}
@@ -54,7 +54,9 @@ module _ (old new : List Node) where
       let at_k = back_same between (k ∷ line) past in
       with_behind away near between line rest k (e ∙ row) edges (subst AreInlineTrivia (sym (contents_same near (front_same near (n ∷ (between ++ k ∷ line)) stretch))) beside)
       (subst (λ l. IsTrue (apart l)) (sym (contents_same away at_away)) apart_away) (subst (λ w. IsTrue (is_comma w)) (sym (head_same k line at_k)) comma)
-      (subst (LeavesBehind (contents new between)) (sym (contents_same line (tail_same k line at_k))) (subst (λ l. LeavesBehind l (contents old line)) (sym (contents_same between (front_same between (k ∷ line) past))) goes))
+      (subst (GoesWith (contents new between) (contents new line)) (sym (contents_same (rest ++ last ∷ []) (back_same (near ++ n ∷ (between ++ k ∷ line)) (rest ++ last ∷ []) (back_same (open_with ∷ away) ((near ++ n ∷ (between ++ k ∷ line)) ++ (rest ++ last ∷ [])) all))))
+      (subst (λ l. GoesWith (contents new between) l (contents old (rest ++ last ∷ []))) (sym (contents_same line (tail_same k line at_k)))
+      (subst (λ l. GoesWith l (contents old line) (contents old (rest ++ last ∷ []))) (sym (contents_same between (front_same between (k ∷ line) past))) goes)))
   going_same c n open_with last from to _ e h (with_before away mid near line rest {k = k} row edges beside apart_mid none_mid comma ended first) =
       let all = subst (AreSame old new) row h in
       let ahead = back_same (open_with ∷ away) (k ∷ mid) (front_same ((open_with ∷ away) ++ k ∷ mid) ((near ++ n ∷ line) ++ (rest ++ last ∷ [])) all) in
@@ -64,7 +66,8 @@ module _ (old new : List Node) where
       with_before away mid near line rest (e ∙ row) edges (subst AreInlineTrivia (sym (contents_same near (front_same near (n ∷ line) stretch))) beside)
       (subst (λ l. IsTrue (apart l)) (sym (contents_same (k ∷ mid) ahead)) apart_mid) (subst (λ l. IsTrue (no_commas l)) (sym (contents_same mid (tail_same k mid ahead))) none_mid)
       (subst (λ w. IsTrue (is_comma w)) (sym (head_same k mid ahead)) comma) (subst IsRestOfLine (sym (contents_same line at_line)) ended)
-      (ap comma_first (contents_same (rest ++ last ∷ []) (back_same (near ++ n ∷ line) (rest ++ last ∷ []) behind)) ∙ first)
+      (subst (GoesWithout (contents new line)) (sym (contents_same (rest ++ last ∷ []) (back_same (near ++ n ∷ line) (rest ++ last ∷ []) behind)))
+      (subst (λ l. GoesWithout l (contents old (rest ++ last ∷ []))) (sym (contents_same line at_line)) first))
   going_same c n open_with last from to _ e h (with_none away near line rest row edges beside apart_away none_away ended first) =
       let all = subst (AreSame old new) row h in
       let at_away = tail_same open_with away (front_same (open_with ∷ away) ((near ++ n ∷ line) ++ (rest ++ last ∷ [])) all) in
@@ -73,7 +76,8 @@ module _ (old new : List Node) where
       let at_line = tail_same n line (back_same near (n ∷ line) stretch) in
       with_none away near line rest (e ∙ row) edges (subst AreInlineTrivia (sym (contents_same near (front_same near (n ∷ line) stretch))) beside)
       (subst (λ l. IsTrue (apart l)) (sym (contents_same away at_away)) apart_away) (subst (λ l. IsTrue (no_commas l)) (sym (contents_same away at_away)) none_away) (subst IsRestOfLine (sym (contents_same line at_line)) ended)
-      (ap comma_first (contents_same (rest ++ last ∷ []) (back_same (near ++ n ∷ line) (rest ++ last ∷ []) behind)) ∙ first)
+      (subst (GoesWithout (contents new line)) (sym (contents_same (rest ++ last ∷ []) (back_same (near ++ n ∷ line) (rest ++ last ∷ []) behind)))
+      (subst (λ l. GoesWithout l (contents old (rest ++ last ∷ []))) (sym (contents_same line at_line)) first))
 
 -- spaces that have come one after another
 pub spaced_parts : (xs ys : List ℕ) (old new : List Node) → AreSpaced old (xs ++ ys) new → (mid : List Node) × AreSpaced old xs mid × AreSpaced mid ys new

@@ -1,17 +1,18 @@
 -- What leaves with an element is a stretch of its row: whitespace and comments, the element, and what stands behind it.
-use Rattle.std.proofs.Common.{◌≡◌, ℕ, Bool, true, false, not, ◌&&◌, List, [], ◌∷◌, ◌++◌, map, reverse, Option, Some, None, IsTrue, if◌then◌else◌, refl, sym, ap, subst, ◌∙◌, append-nil}
+use Rattle.std.proofs.Common.{◌≡◌, ◌⊎◌, inl, inr, ℕ, Bool, true, false, not, ◌&&◌, ◌||◌, List, [], ◌∷◌, ◌++◌, map, reverse, Option, Some, None, IsTrue, if◌then◌else◌, refl, sym, ap, subst, ◌∙◌, append-nil}
 use Rattle.std.proofs.lemmas.List.{append_assoc, map-append, reverse-append}
 use Rattle.std.specs.List.{find}
 use Rattle.jsonc_tree.specs.Content.{Content}
 use Rattle.jsonc_tree.specs.Tree.{Node, content_at}
-use Rattle.jsonc_layout.specs.nodes.Kinds.{is_inline_trivia, is_inline_trivia_at, is_newline, is_newline_at, is_trivia, is_trivia_at, is_whitespace_at, is_comma_at, is_comma}
+use Rattle.jsonc_layout.specs.nodes.Kinds.{is_inline_trivia, is_inline_trivia_at, is_newline, is_newline_at, is_trivia, is_trivia_at, is_whitespace, is_whitespace_at, is_comma_at, is_comma}
 use Rattle.jsonc_layout.specs.lines.Siblings.{is_no_trivia_at, if_comma}
 use Rattle.jsonc_sound.specs.TriviaChanges.{AreTrivia}
 use Rattle.jsonc_sound.specs.Leaving.{AreInlineTrivia, IsRestOfLine, without_end, with_end}
 use Rattle.jsonc_sound.proofs.RowParts.{beside_trivia, newline_trivia}
 use Rattle.jsonc_layout.specs.nodes.Comments.{first_not_inline_trivia}
 use Rattle.jsonc_edit.specs.remove.Leaving.{begins_other, line_end, newline_there, outermost}
-use Rattle.jsonc_edit.proofs.lemmas.remove.Contents.{apart, no_commas, comma_first, apart_last, beside_append}
+use Rattle.jsonc_edit.specs.SeamRemovals.{EndsLine}
+use Rattle.jsonc_edit.proofs.lemmas.remove.Contents.{apart, no_commas, comma_first, comment_first, line_first, apart_last, beside_append}
 
 beside_line : (c : Content) (ls : List Content) → IsTrue (is_inline_trivia c) → IsRestOfLine ls → IsRestOfLine (c ∷ ls)
 beside_line c ls f (without_end line h) = without_end (c ∷ line) (f, h)
@@ -71,23 +72,86 @@ module _ (ns : List Node) where
   abbrev pub no_line : (row : List ℕ) (n : ℕ) → Line row n n
   no_line row n = record { line = []; rest = row; init = []; split = refl; ended = without_end [] tt; last_is = refl }
 
-  pub line_of : (n : ℕ) (row : List ℕ) → Line row n (line_end ns n row)
-  line_of n [] = no_line [] n
-  line_of n (m ∷ rest) = by (is_newline_at ns m) refl (is_inline_trivia_at ns m) refl (not (is_whitespace_at ns m && begins_other ns rest)) (line_of m rest)
+  -- all of it, up to where the line ends or something else comes
+  pub record WholeLine (row : List ℕ) (n last : ℕ) : Type 0 where
+    pub stretch : Line row n last
+    pub none_left : EndsLine (contents stretch.line) ⊎ (comment_first (contents stretch.rest) ≡ false)
+
+  -- no comment comes where what is first is none, and no whitespace
+  other_first : (c : Content) (rest : List Content) → is_inline_trivia c ≡ false → comment_first (c ∷ rest) ≡ false
+  other_first (Content.whitespace s) rest h = cc
+  other_first (Content.comment s) rest h = cc
+  other_first c rest h = refl
+
+  no_trivia_beside : (c : Content) → is_trivia c ≡ false → is_inline_trivia c ≡ false
+  no_trivia_beside (Content.whitespace s) h = cc
+  no_trivia_beside (Content.comment s) h = cc
+  no_trivia_beside c h = refl
+
+  past_space : (m : ℕ) (rest : List ℕ) → not (is_whitespace_at ns m && begins_other ns rest) ≡ false → comment_first (contents (m ∷ rest)) ≡ false
+  past_space m [] h = by (content_at ns m) h
     where
-      by : (a : Bool) → is_newline_at ns m ≡ a → (b : Bool) → is_inline_trivia_at ns m ≡ b → (d : Bool) → Line rest m (line_end ns m rest) → Line (m ∷ rest) n (if a then m else (if b && d then line_end ns m rest else n))
-      by true e b f d r = record { line = m ∷ []; rest = rest; init = n ∷ []; split = refl; ended = with_end [] (content_at ns m) tt e; last_is = refl }
-      by false e true f true r =
+      by : (c : Content) → not (is_whitespace c && false) ≡ false → comment_first (c ∷ []) ≡ false
+      by (Content.whitespace s) k = refl
+      by (Content.comment s) k = cc
+      by c k = refl
+  past_space m (p ∷ rest) h = by (content_at ns m) (is_trivia_at ns p) refl h
+    where
+      by : (c : Content) (b : Bool) → is_trivia_at ns p ≡ b → not (is_whitespace c && not b) ≡ false → comment_first (c ∷ contents (p ∷ rest)) ≡ false
+      by (Content.whitespace s) false e k = other_first (content_at ns p) (contents rest) (no_trivia_beside (content_at ns p) e)
+      by (Content.whitespace s) true e k = cc
+      by (Content.comment s) b e k = cc
+      by c b e k = refl
+
+  pub line_of : (n : ℕ) (row : List ℕ) → WholeLine row n (line_end ns n row)
+  line_of n [] = record { stretch = no_line [] n; none_left = inr refl }
+  line_of n (m ∷ rest) = by (is_newline_at ns m) refl (is_inline_trivia_at ns m) refl (not (is_whitespace_at ns m && begins_other ns rest)) refl (line_of m rest)
+    where
+      longer : (line : List ℕ) (more : List ℕ) → EndsLine (contents line) ⊎ (comment_first (contents more) ≡ false) → EndsLine (contents (m ∷ line)) ⊎ (comment_first (contents more) ≡ false)
+      longer line more (inl (front, end, is, h)) = inl (content_at ns m ∷ front, end, ap (λ (l : List Content). content_at ns m ∷ l) is, h)
+      longer line more (inr e) = inr e
+
+      by : (a : Bool) → is_newline_at ns m ≡ a → (b : Bool) → is_inline_trivia_at ns m ≡ b → (d : Bool) → not (is_whitespace_at ns m && begins_other ns rest) ≡ d → WholeLine rest m (line_end ns m rest)
+          → WholeLine (m ∷ rest) n (if a then m else (if b && d then line_end ns m rest else n))
+      by true e b f d g r =
           record {
-            line = m ∷ r.line;
-            rest = r.rest;
-            init = n ∷ r.init;
-            split = ap (λ (l : List ℕ). m ∷ l) r.split;
-            ended = beside_line (content_at ns m) (contents r.line) f r.ended;
-            last_is = ap (λ (l : List ℕ). n ∷ l) r.last_is;
+            stretch = record { line = m ∷ []; rest = rest; init = n ∷ []; split = refl; ended = with_end [] (content_at ns m) tt e; last_is = refl };
+            none_left = inl ([], content_at ns m, refl, e);
           }
-      by false e true f false r = no_line (m ∷ rest) n
-      by false e false f d r = no_line (m ∷ rest) n
+      by false e true f true g r =
+          let l = r.stretch in
+          record {
+            stretch = record {
+              line = m ∷ l.line;
+              rest = l.rest;
+              init = n ∷ l.init;
+              split = ap (λ (x : List ℕ). m ∷ x) l.split;
+              ended = beside_line (content_at ns m) (contents l.line) f l.ended;
+              last_is = ap (λ (x : List ℕ). n ∷ x) l.last_is;
+            };
+            none_left = longer l.line l.rest r.none_left;
+          }
+      by false e true f false g r = record { stretch = no_line (m ∷ rest) n; none_left = inr (past_space m rest g) }
+      by false e false f d g r = record { stretch = no_line (m ∷ rest) n; none_left = inr (other_first (content_at ns m) (contents rest) f) }
+
+  -- a newline is what comes past whitespace and comments
+  pub newline_comes : (row : List ℕ) → newline_there ns (first_not_inline_trivia ns row) ≡ line_first (contents row)
+  newline_comes [] = refl
+  newline_comes (m ∷ rest) = by (is_inline_trivia_at ns m) refl (newline_comes rest)
+    where
+      never : (c : Content) → is_inline_trivia c ≡ true → (b : Bool) → b ≡ (is_newline c || (is_inline_trivia c && b))
+      never (Content.whitespace s) e b = refl
+      never (Content.comment s) e b = refl
+      never c e b = cc
+
+      only : (a : Bool) → a ≡ (a || false)
+      only true = refl
+      only false = refl
+
+      by : (b : Bool) → is_inline_trivia_at ns m ≡ b → newline_there ns (first_not_inline_trivia ns rest) ≡ line_first (contents rest)
+          → newline_there ns (if not b then Some m else first_not_inline_trivia ns rest) ≡ (is_newline_at ns m || (is_inline_trivia_at ns m && line_first (contents rest)))
+      by true e r = r ∙ never (content_at ns m) e (line_first (contents rest))
+      by false e r = only (is_newline_at ns m) ∙ ap (λ b. is_newline_at ns m || (b && line_first (contents rest))) (sym e)
 
   -- the same where whitespace and comments stand before the newline that ends it
   pub record Ended (row : List ℕ) (last : ℕ) : Type 0 where

@@ -205,7 +205,7 @@ module _ (o : Options) (kind : RowKind) (old ready : List Node) (tree : IsTree o
 
   with_none : FitsLayout o layout → plans.Behind o kind old tree x y left opens closes row_now plan → Follows (leaves_before layout plan) (standing old front) (standing old back) (element_count (standing old left))
   with_none layout_fits (plans.the_bracket w) = behind_bracket (ap (standing old) w)
-  with_none layout_fits (plans.the_comma first n w h) = behind_comma (standing old first) (ap (standing old) w ∙ standing_then old first (n ∷ []) ∙ ap (followed_by (standing old first)) (comma_first old tree n none h))
+  with_none layout_fits (plans.the_comma first n w h l) = behind_comma (standing old first) (ap (standing old) w ∙ standing_then old first (n ∷ []) ∙ ap (followed_by (standing old first)) (comma_first old tree n none h)) l
   with_none layout_fits (plans.the_comments l first n mid w h are ends) =
       let is : standing old front ≡ followed_by (standing old first) (token_then 0x2C (leaves_then (map (content_at old) mid) none)) =
       ap (standing old) w ∙ standing_then old first (n ∷ mid) ∙ ap (followed_by (standing old first)) (comma_first old tree n (standing old mid) h ∙ ap (token_then 0x2C) (beside_alone old tree mid are)) in
@@ -268,7 +268,7 @@ module _ (o : Options) (kind : RowKind) (old ready : List Node) (tree : IsTree o
             stands = standing_then ready first (n ∷ (comma ++ mid)) ∙ ap (λ r. followed_by r (standing ready (n ∷ (comma ++ mid)))) (stand first first_old)
                 ∙ ap (followed_by (standing old first)) (ap (more (content_at ready n) (row_below ready n)) mid_stands ∙ n_stands (token_then 0x2C (leaves_then beside none)));
             follows = λ lines layout_fits. elim (q lines) [
-              | inl w ↦ behind_comma named (ap (λ z. row_around (standing old first) (top_at old n) (token_then 0x2C (leaves_then (map (content_at old) z) none))) w ∙ sym (named_then (token_then 0x2C none)))
+              | inl w ↦ behind_comma named (ap (λ z. row_around (standing old first) (top_at old n) (token_then 0x2C (leaves_then (map (content_at old) z) none))) w.0 ∙ sym (named_then (token_then 0x2C none))) w.1
               | inr w ↦ with_line new_front named mid layout_fits w.0 (sym (named_then (token_then 0x2C (leaves_then beside none)))) be w.1
             ];
             comes_so = subst (λ r. CommaInserted r new_front) (sym front_is) (one_comes (standing old first) (top_at old n) beside el are);

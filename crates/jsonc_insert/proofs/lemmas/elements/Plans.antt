@@ -3,11 +3,11 @@ use Rattle.std.proofs.Common.{◌≡◌, ◌≢◌, ◌∙◌, ◌<◌, ◌≤�
 use Rattle.std.specs.List.{list_all, prefix_len}
 use Rattle.std.specs.Option.{option_or}
 use Rattle.std.proofs.lemmas.Bool.{and_parts, cases_Bool, cases_lt, eqb-true, false≢true}
-use Rattle.std.proofs.lemmas.List.{drop-append-le, get_or-append-add, get_or-drop, get_or-reverse, get_or-take, get_or_append_left, length-reverse, take-append-drop, take-append-le, take_at, take_more}
+use Rattle.std.proofs.lemmas.List.{drop-append-le, get_or-append-add, get_or-drop, get_or-reverse, get_or-take, get_or_append_left, length-reverse, take-append-drop, take-append-le, take_all, take_at, take_more}
 use Rattle.std.proofs.lemmas.List.Edits.{get_or-between, length-between, split_between}
 use Rattle.std.proofs.lemmas.List.Elements.{All-from_get_or, All-head, All-tail, filter-append, filter_passes}
 use Rattle.std.proofs.lemmas.List.Folds.{drop_split, length-prefix_len, list_all_at}
-use Rattle.std.proofs.lemmas.List.Sums.{prefix_len_passes, prefix_len_stops, prefix_len-le-length}
+use Rattle.std.proofs.lemmas.List.Sums.{prefix_len_passes, prefix_len_stops, prefix_len-le-length, take_while-cons}
 use Rattle.std.proofs.lemmas.Option.{slice_get_cases}
 use Rattle.std.proofs.Math.Seq.{drop-cons, split_at}
 use Rattle.jsonc_text.specs.Options.{Options}
@@ -24,6 +24,7 @@ use Rattle.jsonc_sound.specs.Leaving.{element_count}
 use Rattle.jsonc_sound.specs.Rows.{RowKind, of_values, of_properties, opening, closing, Last, nothing_yet, a_comma, last_after, last_behind}
 use Rattle.jsonc_sound.proofs.SeamStretches.{last_is, parted_stretch}
 use Rattle.jsonc_edit.specs.Changes.{row_below}
+use Rattle.jsonc_edit.specs.SeamRemovals.{line_comes}
 use Rattle.jsonc_edit.specs.multiline.Reflows.{has_newline}
 use Rattle.jsonc_insert.specs.Planned.{behind_comma, begins_with_comma, comma_comes, comma_wanted, element_before, elements, has_brackets, has_comma, is_other, line, line_if, parting, past_comments, place_in, plan_alone, plan_behind, plan_by, plan_first, planned, trivia}
 use Rattle.jsonc_insert.specs.Trimmed.{last_blanks, last_spaces}
@@ -43,6 +44,21 @@ beside_last : (last : Last) (content : Content) → is_inline_trivia content ≡
 beside_last last (Content.whitespace s) h = refl
 beside_last last (Content.comment s) h = refl
 beside_last last content h = cc
+
+-- where something else than whitespace and comments stands on a line, the line does not end past these
+other_on_line : (ns : List Node) (y : ℕ) (xs : List ℕ) → list_all (is_inline_trivia_at ns) (line ns (xs ++ y ∷ [])) ≡ false → line_comes (standing ns xs) ≡ false
+other_on_line ns y [] h = refl
+other_on_line ns y (m ∷ xs) h =
+    by (line ns (xs ++ y ∷ [])) (line_comes (standing ns xs)) (is_newline_at ns m) refl (is_inline_trivia_at ns m) refl
+    (subst (λ l. list_all (is_inline_trivia_at ns) l ≡ false) (take_while-cons (is_no_newline_at ns) m (xs ++ y ∷ [])) h) (other_on_line ns y xs)
+  where
+    by : (rest : List ℕ) (later a : Bool) → is_newline_at ns m ≡ a → (b : Bool) → is_inline_trivia_at ns m ≡ b → list_all (is_inline_trivia_at ns) (cond (not a) (m ∷ rest) []) ≡ false
+        → (list_all (is_inline_trivia_at ns) rest ≡ false → later ≡ false) → (is_newline_at ns m || (is_inline_trivia_at ns m && later)) ≡ false
+    by rest later true e b f g more_of = let wrong : true ≡ false = g in cc
+    by rest later false e true f g more_of =
+        let further : list_all (is_inline_trivia_at ns) rest ≡ false = ap (λ b. b && list_all (is_inline_trivia_at ns) rest) (sym f) ∙ g in
+        ap (λ a. a || (is_inline_trivia_at ns m && later)) e ∙ ap (λ b. b && later) f ∙ more_of further
+    by rest later false e false f g more_of = ap (λ a. a || (is_inline_trivia_at ns m && later)) e ∙ ap (λ b. b && later) f
 
 beside_trivia : (content : Content) → is_inline_trivia content ≡ true → IsTrue (is_trivia content)
 beside_trivia (Content.whitespace s) h = refl
@@ -132,7 +148,7 @@ module _ (o : Options) (kind : RowKind) (ns : List Node) (tree : IsTree ns) (x y
   -- what a plan puts the element behind: the first bracket or a comma, or on a line of its own the comments on the comma's line, where others are
   pub data Behind (p : Plan) : Type 0 where
     the_bracket : before p ≡ [] → Behind p
-    the_comma : (front : List ℕ) (n : ℕ) → before p ≡ front ++ n ∷ [] → is_comma_at ns n ≡ true → Behind p
+    the_comma : (front : List ℕ) (n : ℕ) → before p ≡ front ++ n ∷ [] → is_comma_at ns n ≡ true → line_comes (standing ns (behind p)) ≡ false → Behind p
     the_comments : p.before ≡ Line → (front : List ℕ) (n : ℕ) (mid : List ℕ) → before p ≡ front ++ n ∷ mid → is_comma_at ns n ≡ true → AllAre (is_inline_trivia_at ns) mid → EndsLine (behind p) → Behind p
     no_others : length (elements ns inner) ≡ 0 → Behind p
 
@@ -144,7 +160,7 @@ module _ (o : Options) (kind : RowKind) (ns : List Node) (tree : IsTree ns) (x y
   pub data CommaAt (several : Bool) (p : Plan) : Type 0 where
     none_due : p.comma ≡ None → IsTrue (takes_element (last_behind nothing_yet (standing ns (before p)))) → (Lines several → Behind p) → CommaAt several p
     one_due : (front : List ℕ) (n : ℕ) (mid : List ℕ) → before p ≡ front ++ n ∷ mid → p.comma ≡ Some (length front + 2) → is_element_at ns n ≡ true → AllAre (is_inline_trivia_at ns) mid
-        → (Lines several → (mid ≡ []) ⊎ ((p.before ≡ Line) × EndsLine (behind p))) → CommaAt several p
+        → (Lines several → ((mid ≡ []) × (line_comes (standing ns (behind p)) ≡ false)) ⊎ ((p.before ≡ Line) × EndsLine (behind p))) → CommaAt several p
 
   -- what a plan writes behind the element
   pub data Goes (commas : Bool) (p : Plan) : Type 0 where
@@ -344,6 +360,14 @@ module _ (o : Options) (kind : RowKind) (ns : List Node) (tree : IsTree ns) (x y
 
       -- such a line ends in the row
       module _ (b : ℕ) (low : 1 ≤ b) (high : b ≤ length inner + 1) where
+        -- where something else stands on the line, it does not end past whitespace and comments
+        no_line_past : list_all (is_inline_trivia_at ns) (on b) ≡ false → line_comes (standing ns (drop (b - 1) inner)) ≡ false
+        no_line_past off =
+            let one : b ≡ suc (b - 1) = omega (arith, low) in
+            let onward_is : slice_range row b (length row) ≡ drop (b - 1) inner ++ y ∷ [] =
+            take_all (length row - b) (drop b row) (omega (arith, length-drop b row)) ∙ ap (λ k. drop k row) one ∙ drop-append-le (b - 1) inner (y ∷ []) (omega (arith, high)) in
+            other_on_line ns y (drop (b - 1) inner) (subst (λ l. list_all (is_inline_trivia_at ns) (line ns l) ≡ false) onward_is off)
+
         past_off : list_all (is_inline_trivia_at ns) (on b) ≡ false → past_comments ns row b ≡ b
         past_off off = ap (λ v. b + cond v (length (on b) - last_spaces ns (on b)) 0) off ∙ omega arith
 
@@ -592,10 +616,10 @@ module _ (o : Options) (kind : RowKind) (ns : List Node) (tree : IsTree ns) (x y
           by (inr h) = none_go h (g refl)
 
       -- nothing stands between, or the element is on a line of its own behind comments
-      at_once : Lines several → (end ≡ b) ⊎ ((parting several ≡ Line) × EndsLine (drop (end - 1) inner))
+      at_once : Lines several → ((end ≡ b) × (line_comes (standing ns (drop (end - 1) inner)) ≡ false)) ⊎ ((parting several ≡ Line) × EndsLine (drop (end - 1) inner))
       at_once lines =
           elim (cases_Bool (list_all (is_inline_trivia_at ns) (on b))) [
-            | inr off ↦ inl (past_off b (omega (arith, b_low)) b_high off)
+            | inr off ↦ (let e : end ≡ b = past_off b (omega (arith, b_low)) b_high off in inl (e, ap (λ k. line_comes (standing ns (drop (k - 1) inner))) e ∙ no_line_past b (omega (arith, b_low)) b_high off))
             | inl so ↦
                 elim (cases_Bool (has_newline (standing ns inner))) [
                   | inr quiet ↦ absurd (not_quiet b (omega (arith, b_low)) b_high so quiet)
@@ -614,6 +638,9 @@ module _ (o : Options) (kind : RowKind) (ns : List Node) (tree : IsTree ns) (x y
           here : take ((at_end follow).place - 1) inner ≡ take (end - 1) inner
           here = ap (λ k. take (k - 1) inner) (place_end follow)
 
+          none_here : line_comes (standing ns (drop (end - 1) inner)) ≡ false → line_comes (standing ns (drop ((at_end follow).place - 1) inner)) ≡ false
+          none_here w = ap (λ k. line_comes (standing ns (drop (k - 1) inner))) (place_end follow) ∙ w
+
           ends_here : EndsLine (drop (end - 1) inner) → EndsLine (drop ((at_end follow).place - 1) inner)
           ends_here w = subst (λ k. EndsLine (drop (k - 1) inner)) (sym (place_end follow)) w
 
@@ -624,7 +651,7 @@ module _ (o : Options) (kind : RowKind) (ns : List Node) (tree : IsTree ns) (x y
               (λ lines.
               elim (at_once lines) [
                 | inl once ↦
-                    the_comma (take (b - 2) inner) (slice_index row (b - 1)) (here ∙ front_through b b_low b_high ∙ ap (λ l. take (b - 2) inner ++ slice_index row (b - 1) ∷ l) (none_between once)) (comma_stands h)
+                    the_comma (take (b - 2) inner) (slice_index row (b - 1)) (here ∙ front_through b b_low b_high ∙ ap (λ l. take (b - 2) inner ++ slice_index row (b - 1) ∷ l) (none_between once.0)) (comma_stands h) (none_here once.1)
                 | inr w ↦
                     the_comments (before_end follow ∙ w.0) (take (b - 2) inner) (slice_index row (b - 1)) (slice_range inner (b - 1) (end - 1)) (here ∙ front_through b b_low b_high) (comma_stands h) (mid_beside b b_low b_high) (ends_here w.1)
               ])
@@ -634,7 +661,7 @@ module _ (o : Options) (kind : RowKind) (ns : List Node) (tree : IsTree ns) (x y
               let counted : e ≡ length front + 2 = omega (arith, length-take (b - 2) inner, b_low, b_high, b_without h) in
               one_due front n mid (here ∙ front_through b b_low b_high ∙ ap (λ m. front ++ m ∷ mid) (n_before h))
               (comma_end follow ∙ ap (λ v. cond v None (Some e)) h ∙ ap Some counted) element (mid_beside b b_low b_high)
-              (λ lines. elim (at_once lines) [ inl once ↦ inl (none_between once) | inr w ↦ inr (before_end follow ∙ w.0, ends_here w.1) ])
+              (λ lines. elim (at_once lines) [ inl once ↦ inl (none_between once.0, none_here once.1) | inr w ↦ inr (before_end follow ∙ w.0, ends_here w.1) ])
 
       none_fits : (follow : Bool) → IsTrue (not (leaving.comma_comes (standing ns (behind (at_end follow)))))
       none_fits follow = subst (λ k. IsTrue (not (leaving.comma_comes (standing ns (drop (k - 1) inner))))) (sym (place_end follow)) (by (cases_Bool (has_comma ns row e)))

@@ -74,7 +74,7 @@ module _ (d e : Document) where
       subst (λ x. around_in x ≤ max (around_in d.value) (around v)) (sym some) (omega arith)
 
   without_comment : (n : ℕ) → LosesComment n d e → around_in e.value ≤ max (around_in d.value) 0
-  without_comment n h = same 0 h.9
+  without_comment n h = same 0 h.8
 
   with_comment : (place : Place) (path s : List ℕ) → InsertsComment place path s d e → around_in e.value ≤ max (around_in d.value) 0
   with_comment Above path s h = same 0 h.6.value

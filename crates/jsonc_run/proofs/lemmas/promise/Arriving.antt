@@ -1,6 +1,7 @@
 -- What an element that comes into a container of a sound tree adds to the text.
-use Rattle.std.proofs.Common.{◌||◌, inr, inl, ◌⊎◌, arith, ℕ, ◌+◌, ◌≡◌, ◌≢◌, ◌∙◌, sym, ap, subst, refl, Bool, true, false, not, List, [], ◌∷◌, ◌++◌, length, IsTrue, Option}
+use Rattle.std.proofs.Common.{◌||◌, ◌&&◌, inr, inl, ◌⊎◌, arith, ℕ, ◌+◌, ◌≡◌, ◌≢◌, ◌∙◌, sym, ap, subst, refl, Bool, true, false, not, List, [], ◌∷◌, ◌++◌, length, IsTrue, Option}
 use Rattle.std.proofs.lemmas.List.{append_assoc, append-nil}
+use Rattle.std.proofs.lemmas.Bool.{false≢true}
 use Rattle.std.proofs.lemmas.Str.{chars-nil}
 use Rattle.jsonc_text.specs.Options.{Options}
 use Rattle.jsonc_text.specs.Plain.{Plain}
@@ -11,16 +12,19 @@ use Rattle.jsonc_sound.specs.Leaving.{element_count}
 use Rattle.jsonc_sound.specs.Leaving as leaving
 use Rattle.jsonc_sound.specs.Leaving.{AreInlineTrivia}
 use Rattle.jsonc_edit.specs.multiline.Reflows.{has_newline}
-use Rattle.jsonc_layout.specs.nodes.Kinds.{is_newline}
+use Rattle.jsonc_layout.specs.nodes.Kinds.{is_inline_trivia, is_newline}
 use Rattle.jsonc_run.proofs.lemmas.promise.Trivia.{beside_text, line_end_text}
 use Rattle.jsonc_sound.specs.Rows.{RowKind, closing, opening}
 use Rattle.jsonc_sound.specs.SoundTrees.{SoundTree}
 use Rattle.jsonc_sound.specs.Marks.{marks, marks_of}
 use Rattle.jsonc_sound.specs.TreeChanges.{IsElement, leaves_of, ElementChanged, this_element, passed, later_element, DocumentChanged}
 use Rattle.jsonc_sound.proofs.NodesAlone.{document_alone}
-use Rattle.jsonc_sound.proofs.Pieces.{Pieces, document_pieces}
+use Rattle.jsonc_sound.specs.Alone.{RowAlone}
+use Rattle.jsonc_sound.proofs.Pieces.{LinesFlat, Pieces, document_flat, document_pieces}
 use Rattle.jsonc_sound.proofs.Texts.{AllUtf8}
 use Rattle.jsonc_sound.proofs.TriviaLeaves.{front_leaves}
+use Rattle.jsonc_edit.specs.SeamRemovals.{line_comes}
+use Rattle.jsonc_edit.proofs.lemmas.remove.Contents.{line_first}
 use Rattle.jsonc_edit.specs.multiline.Laws.{bracketed}
 use Rattle.jsonc_insert.proofs.lemmas.elements.Marked.{behind_marks, led_marks}
 use Rattle.jsonc_tree.proofs.OrderedTrees.{leaves-followed_by}
@@ -37,6 +41,8 @@ use Rattle.jsonc_run.proofs.lemmas.promise.Entries.{element_text}
 use Rattle.jsonc_run.proofs.lemmas.promise.AlongRows.{along_row}
 use Rattle.jsonc_run.proofs.lemmas.promise.LinesInside.{opened}
 use Rattle.jsonc_run.proofs.lemmas.promise.Reversed.{flip, front_same, back_same}
+use Rattle.jsonc_run.proofs.lemmas.promise.LeafEnds.{flat_behind}
+use Rattle.jsonc_run.proofs.lemmas.promise.NothingBehind.{no_line_ends, row_line, row_stops, stops}
 use Rattle.jsonc_run.proofs.lemmas.promise.Leaves.{row_back, front_of, back_of, document_parts, document_utf8, text_joined, utf8_first, utf8_joined, utf8_second}
 use Rattle.jsonc_run.proofs.lemmas.promise.StretchElements.{Reached, at_first, past_leaves, past_row}
 use Rattle.jsonc_run.proofs.lemmas.promise.RemovedTexts.{entry_begins, entry_there, none_more}
@@ -45,7 +51,8 @@ use Rattle.jsonc_sound.specs.Documents.{all_marks, document_of}
 use Rattle.jsonc_run.proofs.lemmas.promise.Values.{at_the_place, node_leaves}
 use Rattle.jsonc_run.proofs.lemmas.promise.Insides.{as_many, comma_comes, gap_trivia, goes_on, inside_so, texts_followed, texts_past}
 use Rattle.jsonc_run.proofs.lemmas.promise.Joined.{EntriesOf, Good, none_behind, bracket_follows, close_text, gap_blanks, good_as, good_first, good_second, good_tree, led_so, lines_behind, lines_past, lines_trimmed, no_comma_closes, one_token, onward, open_text, past_some, past_stretch, with_row}
-use Rattle.jsonc_sound.proofs.RowParts.{beside_trivia, leaves_followed}
+use Rattle.jsonc_sound.proofs.RowParts.{at_comma, beside_trivia, leaves_followed, parted_at}
+use Rattle.jsonc_sound.proofs.RowParts as row_parts
 use Rattle.jsonc_sound.proofs.RootRows.{joined_trivia, leaves_then_joined}
 use Rattle.jsonc_sound.specs.MarkChanges.{AreBlanks}
 use Rattle.jsonc_tree.specs.declared.node.CstNewlineKind.{CstNewlineKind}
@@ -53,7 +60,7 @@ use Rattle.jsonc_tree.proofs.Rows.{followed_by-assoc, followed_by-none}
 use Rattle.jsonc_run.proofs.lemmas.promise.Values.{ValueHere}
 use Rattle.jsonc_run.proofs.lemmas.promise.CommentTexts.{blanks_text}
 use Rattle.jsonc_run.proofs.lemmas.promise.LooseRows.{AreLeaves, Ended, all_trivia, behind_one, Reads, behind_entry, entry_read, reads_on, closing_gap, ended, kind_of_row, none_comes, row_reads, trivia_leaves}
-use Rattle.jsonc_run.proofs.lemmas.promise.Closing.{count_followed}
+use Rattle.jsonc_run.proofs.lemmas.promise.Closing.{container_row, count_followed}
 use Rattle.jsonc_sound.proofs.LooseLines.{Stops, trivia_gap}
 use Rattle.jsonc_sound.specs.Rows as rows
 use Rattle.jsonc_text.specs.Gaps as text_gaps
@@ -144,6 +151,11 @@ spreads_so : (kind : places.Kind) (path : List ℕ) (d : Document) (y : List ℕ
 spreads_so places.an_array path d y h = h
 spreads_so places.an_object path d y h = h
 
+-- behind what stands before the last bracket no line ends more
+line_to_bracket : (row : OrderedTree) (c : ℕ) → line_comes (followed_by row (token_then c none)) ≡ line_comes row
+line_to_bracket none c = refl
+line_to_bracket (more x below after) c = ap (λ b. is_newline x || (is_inline_trivia x && b)) (line_to_bracket after c)
+
 -- all around it stays
 module _ (o : Options) (kind : RowKind) (row middle kept new : OrderedTree) {path : List ℕ} {t u : OrderedTree} (s : SoundTree o t) (r : SoundTree o u) (d : DocumentChanged (bracketed kind row) (bracketed kind new) path t u) (leave : BlankLinesLeave middle kept) where
   abbrev F : List ℕ
@@ -214,6 +226,9 @@ module _ (o : Options) (kind : RowKind) (row middle kept new : OrderedTree) {pat
 
   first_regroup : (a h z : List ℕ) (b : ℕ) → (a ++ (h ++ (b ∷ []))) ++ z ≡ a ++ (h ++ (b ∷ z))
   first_regroup a h z b = simp (append_assoc) refl
+
+  later_regroup : (f l g a b h k z y : List Content) (c : Content) → f ++ ((c ∷ ((l ++ (g ++ (a ++ (b ++ (h ++ k))))) ++ z)) ++ y) ≡ (f ++ (c ∷ (l ++ (g ++ (a ++ (b ++ h)))))) ++ (k ++ (z ++ y))
+  later_regroup f l g a b h k z y c = simp (append_assoc) refl
 
   row_regroup : (l g a b h : List Content) → l ++ (g ++ (a ++ (b ++ h))) ≡ l ++ (g ++ ((a ++ b) ++ h))
   row_regroup l g a b h = simp (append_assoc) refl
@@ -468,13 +483,46 @@ module _ (o : Options) (kind : RowKind) (row middle kept new : OrderedTree) {pat
           (text_of_leaves line, text_of_leaves (leaves rest) ++ last, refl, line_end_text n),
         )
 
+    -- where no line ends behind the comma in the row, none does in the text
+    back_row : (l : rows.Last) × RowAlone o kind l (followed_by back bracket)
+    back_row =
+        let whole = subst (RowAlone o kind rows.nothing_yet) whole_row (container_row o kind here_new.shaped) in
+        by on (parted_at o kind led gap top [] (followed_by behind bracket) (gap_trivia g) tt element whole).behind
+      where
+        past : {l : rows.Last} {must2 : Bool} (gp : List Content) → Gap must2 gp → RowAlone o kind l (followed_by (leaves_then gp back) bracket) → (l2 : rows.Last) × RowAlone o kind l2 (followed_by back bracket)
+        past {l} gp gg h = (l, row_parts.past_leaves o kind gp (gap_trivia gg) (subst (RowAlone o kind l) (leaves_followed gp back bracket) h))
+
+        by : {b : OrderedTree} → GoesOn o gap back b → RowAlone o kind rows.an_element (followed_by b bracket) → (l : rows.Last) × RowAlone o kind l (followed_by back bracket)
+        by (coming.elements_follow gp gg n) h = past gp gg (at_comma o kind h).1
+        by (coming.none_follow gp gg n) h = past gp gg h
+        by (coming.comma_last t gg n) h = (rows.a_comma, (at_comma o kind h).1)
+
+    no_line : line_comes back ≡ false → entering.LineEnds back_text → ⊥
+    no_line e w =
+        let n = onward o comma_mark on in
+        let z : List Content = back_of (flip d) in
+        let later : List Content = leaves back ++ (close ++ z) in
+        let ahead : List Content = front_of (flip d) ++ (token (opening kind) ∷ (leaves led ++ (gap ++ (own ++ (n.leaf ++ n.gap))))) in
+        let whole : leaves u ≡ ahead ++ later =
+        document_parts (flip d) ∙ ap (λ l. front_of (flip d) ++ (l ++ z)) (bracketed_leaves new ∙ ap (λ l. token (opening kind) ∷ (l ++ close)) (parts ∙ ap (λ l. leaves led ++ (gap ++ (own ++ l))) n.parts))
+        ∙ later_regroup (front_of (flip d)) (leaves led) gap own n.leaf n.gap (leaves back) close z (token (opening kind)) in
+        let good : Good o later = good_second o ahead later (good_as o whole (good_tree o r)) in
+        let flat : LinesFlat later = flat_behind ahead later (subst LinesFlat whole (document_flat o (document_alone o r.shaped) r.lines)) in
+        let same : leaves (followed_by back bracket) ++ z ≡ later = ap (λ l. l ++ z) (leaves-followed_by back bracket) ∙ append_assoc (leaves back) close z in
+        let first : line_first later ≡ false = ap line_first (sym same) ∙ row_line o back_row.1 z ∙ line_to_bracket back (closing kind) ∙ e in
+        let far : stops later ≡ true = ap stops (sym same) ∙ row_stops o back_row.1 z in
+        let text : text_of_leaves later ≡ back_text =
+        text_joined (leaves back) (close ++ z) (good_first o (leaves back) (close ++ z) good).utf8
+        ∙ ap (λ l. text_of_leaves (leaves back) ++ l) (text_joined close z (good_first o close z (good_second o (leaves back) (close ++ z) good)).utf8 ∙ ap (λ l. l ++ text_of_leaves z) (close_text kind) ∙ ap (λ l. places.closing k ∷ text_of_leaves l) (back_same d)) in
+        no_line_ends o later first far flat good (subst entering.LineEnds (sym text) w)
+
     abbrev Alone : Type 0
     Alone = texts_of front ++ texts_of back ≡ []
 
     abbrev Ready : List ℕ → List ℕ → Type 0
     Ready lead rest = (y z : List ℕ) × (b : Bool) × (lead ≡ y ++ z) × Begins o k inside b (z ++ (text_of_leaves gap ++ (node_chars top ++ rest)))
         × text_gaps.Gap o (z ++ (text_of_leaves gap ++ (node_chars top ++ rest))) (node_chars top ++ rest)
-        × ((z ≡ []) ⊎ (((b ≡ true) × documents.InLine z × entering.StartsLine (text_of_leaves gap) × entering.EndsLine back_text) ⊎ (Alone × (documents.InLine z ⊎ StartsLine))))
+        × (((z ≡ []) × (b ≡ true → entering.LineEnds back_text → ⊥)) ⊎ (((b ≡ true) × documents.InLine z × entering.StartsLine (text_of_leaves gap) × entering.EndsLine back_text) ⊎ (Alone × (documents.InLine z ⊎ StartsLine))))
 
     -- the text through a comma, and beside it
     comma_text : (first : OrderedTree) (beside : List Content) → AreTrivia beside → led ≡ followed_by first (token_then 0x2C (leaves_then beside none))
@@ -500,9 +548,9 @@ module _ (o : Options) (kind : RowKind) (row middle kept new : OrderedTree) {pat
               ap (λ l. F ++ (places.opening k ∷ l)) empty ∙ sym (append-nil (F ++ (places.opening k ∷ []))),
               subst (Begins o k inside false) (inside_is rest e ∙ ap (λ l. l ++ (text_of_leaves gap ++ (node_chars top ++ rest))) empty) entering.at_bracket,
               gap_here rest e,
-              inl refl,
+              inl (refl, λ w. absurd (false≢true w)),
             )
-        by (coming.behind_comma first q) =
+        by (coming.behind_comma first q l) =
             let t = comma_text first [] tt q in
             let through : List ℕ = (F ++ (places.opening k ∷ text_of_leaves (leaves first))) ++ (0x2C ∷ []) in (
               through,
@@ -511,7 +559,7 @@ module _ (o : Options) (kind : RowKind) (row middle kept new : OrderedTree) {pat
               t.1 ∙ ap (λ l. (F ++ (places.opening k ∷ text_of_leaves (leaves first))) ++ 0x2C ∷ l) chars-nil ∙ sym (append-nil through),
               entering.at_comma (subst (λ l. Along o k inside (0x2C ∷ (l ++ (text_of_leaves gap ++ (node_chars top ++ rest))))) chars-nil (along_comma rest e first none q (good_first o [] (leaves led) g_led))),
               gap_here rest e,
-              inl refl,
+              inl (refl, λ w. no_line l),
             )
         by (coming.behind_comments b first after beside spaces n inline in_spaces blank q is) =
             let are = beside_trivia beside inline in

@@ -3,7 +3,7 @@ use Rattle.std.proofs.Common.{ℕ, length, ◌≡◌, sym, ap, subst, refl, inl,
 use Rattle.std.proofs.lemmas.List.Elements.{All-head, All-tail}
 use Rattle.jsonc_run.specs.texts.Edits as texts
 use Rattle.jsonc_text.specs.Documents.{Document, IsOne}
-use Rattle.jsonc_run.specs.texts.Edits.{Operation, options_behind, Leaves, Makes, Run}
+use Rattle.jsonc_run.specs.texts.Edits.{Operation, options_behind, Leaves, Makes}
 use Rattle.jsonc_run.specs.texts.Entries.{Named}
 use Rattle.jsonc_text.specs.Options.{Options}
 use Rattle.jsonc_run.specs.texts.Paths.{an_array, an_object}
@@ -58,7 +58,7 @@ root_made : (o : Options) {t u : OrderedTree} {top : Top} (w x : Option Plain) �
 root_made o {t} {u} {top} w x s r taken =
     let first : SoundTree o (root_with taken.row) = subst (SoundTree o) taken.was s in
     let second : SoundTree o (root_with taken.new) = subst (SoundTree o) taken.now r in
-    let gone = root_gone o first second w x taken.element taken.leaves taken.empties in
+    let gone = root_gone o first second w x taken.element taken.leaves taken.stays taken.empties in
     subst (λ (z : OrderedTree). Leaves [] (document_of o z w) (document_of o u x)) (sym taken.was) (subst (λ (z : OrderedTree). Leaves [] (document_of o (root_with taken.row) w) (document_of o z x)) (sym taken.now) gone)
 
 comment_made : (o : Options) (t u : OrderedTree) (w x : Option Plain) (n : ℕ) → Step o t w (texts.remove_comment n) u x → Makes (document_of o t w) (texts.remove_comment n) (document_of o u x)

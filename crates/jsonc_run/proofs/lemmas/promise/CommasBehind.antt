@@ -6,10 +6,10 @@ use Rattle.std.proofs.lemmas.List.{append-nil}
 use Rattle.std.proofs.lemmas.Str.{chars-nil, chars-IsAscii}
 use Rattle.jsonc_text.specs.Options.{Options}
 use Rattle.jsonc_text.specs.Text.{Many, stop, step, next, no, starts, is_line_end}
-use Rattle.jsonc_text.specs.Gaps.{is_blank, is_in_line, IsComment, UpToBlockEnd, here, later, line, block}
+use Rattle.jsonc_text.specs.Gaps.{is_blank, is_in_line, BlockComment, IsComment, UpToBlockEnd, here, later, line, block}
 use Rattle.jsonc_text.specs.Lexemes.{LexemeKind, Lexeme, is_punctuation}
 use Rattle.jsonc_text.specs.Grammar.{may_name}
-use Rattle.jsonc_text.proofs.Basics.{and_both, apart, clash, or_cases, starts_front, tails, test_eq}
+use Rattle.jsonc_text.proofs.Basics.{and_both, apart, clash, or_cases, or_left, starts_front, tails, test_eq}
 use Rattle.jsonc_text.proofs.Begins.{begins_literal, lexeme_begins}
 use Rattle.jsonc_text.proofs.UniqueGaps.{block_end_unique, comment_no_blank}
 use Rattle.jsonc_tree.specs.Content.{Content, newline_text, text_of}
@@ -35,14 +35,18 @@ LeadsOn t r = OnLine t (0x2C ∷ r)
 is_space_blank : (c : ℕ) → IsTrue (is_inner_blank c) → IsTrue (is_blank c)
 is_space_blank c h = (and_both (is_blank c) (not (is_line_end c)) h).0
 
-past_blank : {c : ℕ} {t r : List ℕ} → LeadsOn (c ∷ t) r → IsTrue (is_inner_blank c) → LeadsOn t r
-past_blank lines.there b = absurd (false≢true b)
-past_blank (lines.past_blank h g) b = g
-past_blank {c = c} (lines.past_comment k g) b = absurd (comment_no_blank k (is_space_blank c b))
+-- what neither a blank on the line nor a comment begins
+abbrev pub begins_other : ℕ → Bool
+begins_other c = not (is_inner_blank c || c == 0x2F)
 
-past_blanks : {s e r : List ℕ} (t : List ℕ) → Many is_inner_blank s e → e ≡ [] → LeadsOn (s ++ t) r → LeadsOn t r
-past_blanks {r = r} t stop e g = subst (λ x. LeadsOn (x ++ t) r) e g
-past_blanks t (step b m) e g = past_blanks t m e (past_blank g b)
+past_blank : {c : ℕ} {t z : List ℕ} → OnLine (c ∷ t) z → IsTrue (starts begins_other (next z)) → IsTrue (is_inner_blank c) → OnLine t z
+past_blank {c = c} lines.there h b = absurd (clash (is_inner_blank c || c == 0x2F) h (or_left (is_inner_blank c) (c == 0x2F) b))
+past_blank (lines.past_blank k g) h b = g
+past_blank {c = c} (lines.past_comment k g) h b = absurd (comment_no_blank k (is_space_blank c b))
+
+pub past_blanks : {s e z : List ℕ} (t : List ℕ) → Many is_inner_blank s e → e ≡ [] → IsTrue (starts begins_other (next z)) → OnLine (s ++ t) z → OnLine t z
+past_blanks {z = z} t stop e h g = subst (λ x. OnLine (x ++ t) z) e g
+past_blanks t (step b m) e h g = past_blanks t m e h (past_blank g h b)
 
 -- behind a line comment the line ends, or the text
 none_behind_line : {u r : List ℕ} → LeadsOn u r → IsTrue (no is_in_line (next u)) → ⊥
@@ -56,15 +60,19 @@ block_more y here = here
 block_more y (later h here) = later h here
 block_more y (later h (later k g)) = later h (block_more y (later k g))
 
+pub past_block : {x s t z : List ℕ} → OnLine x z → IsTrue (starts begins_other (next z)) → x ≡ s ++ t → BlockComment s [] → OnLine t z
+past_block lines.there h e (block p) = absurd (false≢true (subst (λ x. IsTrue (starts begins_other (next x))) e h))
+past_block (lines.past_blank {c = c} b g) h e (block p) = absurd (false≢true (sym (ap (λ x. starts is_blank (next x)) e) ∙ (and_both (is_blank c) (is_in_line c) b).0))
+past_block (lines.past_comment (inl (line n a)) g) h e (block p) = absurd (apart refl (tails e))
+past_block {t = t} {z = z} (lines.past_comment {u = u} (inr (block q)) g) h e (block p) =
+    subst (λ x. OnLine x z) (block_end_unique (subst (λ x. UpToBlockEnd x u) (tails (tails e)) q) (block_more t p)) g
+
 past_comment : {x s t r : List ℕ} → LeadsOn x r → x ≡ s ++ t → IsComment s [] → LeadsOn t r
+past_comment g e (inr b) = past_block g refl e b
 past_comment lines.there e (inl (line m a)) = absurd (apart refl e)
-past_comment lines.there e (inr (block q)) = absurd (apart refl e)
 past_comment (lines.past_blank {c = c} b g) e (inl (line m a)) = absurd (false≢true (sym (ap (λ x. starts is_blank (next x)) e) ∙ (and_both (is_blank c) (is_in_line c) b).0))
-past_comment (lines.past_blank {c = c} b g) e (inr (block q)) = absurd (false≢true (sym (ap (λ x. starts is_blank (next x)) e) ∙ (and_both (is_blank c) (is_in_line c) b).0))
-past_comment (lines.past_comment (inl (line n a)) g) e k = absurd (none_behind_line g a)
+past_comment (lines.past_comment (inl (line n a)) g) e (inl k) = absurd (none_behind_line g a)
 past_comment (lines.past_comment (inr (block q)) g) e (inl (line m a)) = absurd (apart refl (tails e))
-past_comment {t = t} {r = r} (lines.past_comment {u = u} (inr (block q)) g) e (inr (block p)) =
-    subst (λ x. LeadsOn x r) (block_end_unique (subst (λ x. UpToBlockEnd x u) (tails (tails e)) q) (block_more t p)) g
 
 none_at_end : {c : ℕ} {t r : List ℕ} → LeadsOn (c ∷ t) r → IsTrue (is_line_end c) → ⊥
 none_at_end lines.there h = false≢true h
@@ -123,7 +131,7 @@ none_at_token c t p h e g =
     at d k m f b s = none_at_mark d (e ∙ ap (λ y. text_of_leaves (Content.token y ∷ []) ++ t) k ∙ ap (λ y. y ++ t) (one_token m)) g f b s
 
 module _ (o : Options) where
-  literal_begins : (content : Content) → IsLiteralBefore o content [] → IsTrue (starts begins_literal (next (chars (text_of content))))
+  pub literal_begins : (content : Content) → IsLiteralBefore o content [] → IsTrue (starts begins_literal (next (chars (text_of content))))
   literal_begins (Content.string s) (v, (u, l)) = subst (λ t. IsTrue (starts begins_literal (next t))) (append-nil (chars s)) (lexeme_begins o (LexemeKind.string v) (chars s ++ []) [] tt l)
   literal_begins (Content.number s) (u, l) = subst (λ t. IsTrue (starts begins_literal (next t))) (append-nil (chars s)) (lexeme_begins o (LexemeKind.number (chars s)) (chars s ++ []) [] tt l)
   literal_begins (Content.boolean true) h = subst (λ t. IsTrue (starts begins_literal (next t))) (sym (chars-IsAscii (text_of (Content.boolean true)) (search rules))) refl
@@ -141,7 +149,7 @@ module _ (o : Options) where
       by (LexemeKind.keyword v) m l = lexeme_begins o (LexemeKind.keyword v) (chars s ++ []) [] tt l
       by (LexemeKind.punctuation c) m l = absurd (false≢true m)
 
-  name_begins : (content : Content) → IsNameBefore o content [] → IsTrue (starts begins_literal (next (chars (text_of content))))
+  pub name_begins : (content : Content) → IsNameBefore o content [] → IsTrue (starts begins_literal (next (chars (text_of content))))
   name_begins (Content.string s) h = literal_begins (Content.string s) h
   name_begins (Content.word s) h = word_begins s h
   name_begins content h = absurd h
@@ -169,7 +177,7 @@ module _ (o : Options) where
   none_comes [] e g r k = none_at_nothing k chars-nil
   none_comes (Content.whitespace s ∷ ls) e g r k =
       let t = piece_trivia o (Content.whitespace s) refl g.pieces.0 in
-      none_comes ls e (good_second o (Content.whitespace s ∷ []) ls g) r (past_blanks (text_of_leaves ls) t.1 refl (subst (λ x. LeadsOn x r) (first_text (Content.whitespace s) ls t.0) k))
+      none_comes ls e (good_second o (Content.whitespace s ∷ []) ls g) r (past_blanks (text_of_leaves ls) t.1 refl refl (subst (λ x. LeadsOn x r) (first_text (Content.whitespace s) ls t.0) k))
   none_comes (Content.comment s ∷ ls) e g r k =
       let t = piece_trivia o (Content.comment s) refl g.pieces.0 in
       none_comes ls e (good_second o (Content.comment s ∷ []) ls g) r (past_comment k (first_text (Content.comment s) ls t.1.0) t.1.1)

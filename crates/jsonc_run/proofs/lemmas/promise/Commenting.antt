@@ -11,14 +11,15 @@ use Rattle.jsonc_sound.specs.Shape.{printed_text}
 use Rattle.jsonc_sound.specs.Marks as tree_marks
 use Rattle.jsonc_sound.specs.SoundTrees.{SoundTree}
 use Rattle.jsonc_sound.proofs.NodesAlone.{document_alone}
-use Rattle.jsonc_sound.proofs.Pieces.{Pieces, document_pieces}
+use Rattle.jsonc_sound.proofs.Pieces.{LinesFlat, Pieces, document_flat, document_pieces}
 use Rattle.jsonc_sound.proofs.Texts.{AllUtf8}
 use Rattle.jsonc_edit.specs.SeamLaws.{comments_before, LosesWithSeam}
 use Rattle.jsonc_edit.specs.Seams.{space_if}
 use Rattle.jsonc_text.specs.Marks as texts
 use Rattle.jsonc_run.specs.texts.Edits.{IsSeam, LosesComment}
 use Rattle.jsonc_run.specs.promise.PlaceLaws.{text_of_leaves}
-use Rattle.jsonc_run.proofs.lemmas.promise.CommentTexts.{blanks_text}
+use Rattle.jsonc_run.proofs.lemmas.promise.BlanksGone.{removed_before}
+use Rattle.jsonc_run.proofs.lemmas.promise.Joined.{Good, good_as, good_first, good_second, good_tree}
 use Rattle.jsonc_run.proofs.lemmas.promise.Leaves.{document_utf8, text_joined, utf8_first, utf8_second}
 use Rattle.jsonc_sound.specs.Documents.{all_marks}
 use Rattle.jsonc_run.proofs.lemmas.promise.RemovedTexts.{pieces_first, pieces_second}
@@ -83,6 +84,8 @@ module _ (o : Options) {t u : OrderedTree} (s : SoundTree o t) (r : SoundTree o 
       ∙ ap (λ l. text_of_leaves g.front ++ l) (text_joined (g.blanks ++ own) behind_old both ∙ ap (λ l. text_of_leaves (g.blanks ++ own) ++ l) old_back
       ∙ ap (λ l. l ++ text_of_leaves g.rest) (text_joined g.blanks own (utf8_first g.blanks own both) ∙ ap (λ l. text_of_leaves g.blanks ++ l) written)) in
       let ahead : List Content = g.front ++ g.blanks in
+      let good : Good o (g.front ++ ((g.blanks ++ own) ++ behind_old)) = good_as o g.before (good_tree o s) in
+      let lines : LinesFlat (g.front ++ (g.blanks ++ (own ++ behind_old))) = subst LinesFlat (g.before ∙ ap (λ l. g.front ++ l) (append_assoc g.blanks own behind_old)) (document_flat o (document_alone o s.shaped) s.lines) in
       let parts : leaves t ≡ ahead ++ (own ++ behind_old) = g.before ∙ ap (λ l. g.front ++ l) (append_assoc g.blanks own behind_old) ∙ sym (append_assoc g.front g.blanks (own ++ behind_old)) in
       let from : text_of_leaves (own ++ behind_old) ≡ chars g.text ++ text_of_leaves g.rest =
       text_joined own behind_old (utf8_second g.blanks own both) ∙ ap (λ l. l ++ text_of_leaves behind_old) written ∙ ap (λ l. chars g.text ++ l) old_back in
@@ -98,8 +101,8 @@ module _ (o : Options) {t u : OrderedTree} (s : SoundTree o t) (r : SoundTree o 
         seam_if g.behind,
         text_of_leaves g.rest,
         record { before = old; after = new; sides = (inl refl, seam) },
-        blanks_text o g.blanks g.are_blanks (pieces_first o g.blanks own pieces),
-        comment.1.1,
+        removed_before o g.front g.blanks g.text behind_old lines (spelled_first g.front ((g.blanks ++ own) ++ behind_old) all_spelled) (good_first o g.front ((g.blanks ++ own) ++ behind_old) good)
+            (good_first o g.blanks own (good_first o (g.blanks ++ own) behind_old (good_second o g.front ((g.blanks ++ own) ++ behind_old) good))) comment.1.0 comment.1.1 (g.blanks_are o s),
         refl,
         marks_in ahead,
         marks_in behind_old,

@@ -230,14 +230,18 @@ row_lacks_comments o k row s d h =
     first_lacks row bracket (lacks_comments (followed_by row bracket) (lacks_with_bracket row (rows.closing k) h) read.1)
 
 -- a container in whose row no line ends
-pub lacks_line : (o : Options) (k : RowKind) (row : OrderedTree) {now : Top} {path : List ℕ} {t u : OrderedTree} → SoundTree o t → (d : DocumentChanged (bracketed k row) now path t u) → has_newline row ≡ false → (w : Option Plain)
+pub lacks_within : (o : Options) (k : RowKind) (row : OrderedTree) {now : Top} {path : List ℕ} {t u : OrderedTree} → SoundTree o t → (d : DocumentChanged (container_of k row) now path t u) → has_newline row ≡ false → (w : Option Plain)
     → HasLineEnd path (document_of o t w) → ⊥
-lacks_line o k row {path = path} {t = t} s d h w (kind, u, r, x, y, c, v, e, a, ends) =
-    let with_bracket : OrderedTree = followed_by row (token_then (rows.closing k) none) in
+lacks_within o k row {path = path} {t = t} s d h w (kind, u, r, x, y, c, v, e, a, ends) =
     let place = at_the_place o s d in
     let back : List ℕ = text_of_leaves (back_of d) in
     let read = row_reads o back k place.2 in
-    let own : text_of_leaves (leaves_of (container_of k with_bracket)) ++ back ≡ places.opening (kind_of_row k) ∷ (printed_text with_bracket ++ back) = ap (λ l. l ++ back) (opened k with_bracket) in
-    let same : places.opening kind ∷ x ≡ places.opening (kind_of_row k) ∷ (printed_text with_bracket ++ back) = sym e ∙ value_once o v place.1 ∙ own in
-    let along_it : Along o (kind_of_row k) (printed_text with_bracket ++ back) (c ∷ y) = subst (λ l. Along o (kind_of_row k) l (c ∷ y)) (tails same) (subst (λ q. Along o q x (c ∷ y)) (kinds_same kind (kind_of_row k) same) a) in
-    none_there o (kind_of_row k) back ends (along o (kind_of_row k) back along_it (spot o (kind_of_row k) back with_bracket read.0 read.1 (lacks_with_bracket row (rows.closing k) h)))
+    let own : text_of_leaves (leaves_of (container_of k row)) ++ back ≡ places.opening (kind_of_row k) ∷ (printed_text row ++ back) = ap (λ l. l ++ back) (opened k row) in
+    let same : places.opening kind ∷ x ≡ places.opening (kind_of_row k) ∷ (printed_text row ++ back) = sym e ∙ value_once o v place.1 ∙ own in
+    let along_it : Along o (kind_of_row k) (printed_text row ++ back) (c ∷ y) = subst (λ l. Along o (kind_of_row k) l (c ∷ y)) (tails same) (subst (λ q. Along o q x (c ∷ y)) (kinds_same kind (kind_of_row k) same) a) in
+    none_there o (kind_of_row k) back ends (along o (kind_of_row k) back along_it (spot o (kind_of_row k) back row read.0 read.1 h))
+
+-- between its brackets
+pub lacks_line : (o : Options) (k : RowKind) (row : OrderedTree) {now : Top} {path : List ℕ} {t u : OrderedTree} → SoundTree o t → (d : DocumentChanged (bracketed k row) now path t u) → has_newline row ≡ false → (w : Option Plain)
+    → HasLineEnd path (document_of o t w) → ⊥
+lacks_line o k row s d h w = lacks_within o k (followed_by row (token_then (rows.closing k) none)) s d (lacks_with_bracket row (rows.closing k) h) w

@@ -20,6 +20,7 @@ use Rattle.jsonc_sound.proofs.Texts.{AllUtf8}
 use Rattle.jsonc_edit.specs.commas.Laws.{allowing, IsAsSaid, OnlyCommas}
 use Rattle.jsonc_text.specs.declared.edit.TrailingCommaMode.{TrailingCommaMode}
 use Rattle.jsonc_text.specs.declared.edit.TrailingCommaMode.TheVariants.{Never, IfMultiline}
+use Rattle.jsonc_edit.proofs.lemmas.commas.WithoutCommas.{gains_loses}
 use Rattle.jsonc_edit.specs.multiline.Laws.{bracketed, SpreadAt}
 use Rattle.jsonc_edit.specs.multiline.Reflows as reflows
 use Rattle.jsonc_edit.specs.multiline.Reflows.{has_newline, is_on_lines, Reflows, SpreadsOut}
@@ -34,6 +35,7 @@ use Rattle.std.proofs.lemmas.Str.{chars-nil}
 use Rattle.std.proofs.lemmas.List.{append-nil}
 use Rattle.jsonc_run.proofs.lemmas.promise.Trivia.{first_text, piece_trivia}
 use Rattle.jsonc_run.specs.promise.PlaceLaws.{text_of_leaves, texts_of}
+use Rattle.jsonc_run.proofs.lemmas.promise.CommasByPaths.{come_on_lines}
 use Rattle.jsonc_run.proofs.lemmas.promise.CommaTexts.{all_same, same_before}
 use Rattle.jsonc_run.proofs.lemmas.promise.CommentTexts.{blanks_text}
 use Rattle.jsonc_run.proofs.lemmas.promise.Insides.{inside_so, texts_followed, within_so}
@@ -173,16 +175,16 @@ multiline_made o t u w _ path s r by_lines m a =
     )
 
 -- commas alone have left, or come
-pub only_commas : (o : Options) (mode : TrailingCommaMode) {t u : OrderedTree} → SoundTree o t → SoundTree (allowing mode o) u → OnlyCommas mode t u → Commas (allowing mode o) (sets_some mode) (printed_text t) (printed_text u)
-only_commas o Never s r h = loses_trailing o s h
-only_commas o IfMultiline s r h = loses_trailing (allowing IfMultiline o) r h
+pub only_commas : (o : Options) (mode : TrailingCommaMode) {t u : OrderedTree} → SoundTree o t → SoundTree (allowing mode o) u → OnlyCommas mode t u → (w x : Option Plain) → Commas (sets_some mode) (document_of o t w) (document_of (allowing mode o) u x)
+only_commas o Never s r h w x = loses_trailing o s h
+only_commas o IfMultiline s r h w x = (loses_trailing (allowing IfMultiline o) r (gains_loses h), come_on_lines o s r h w x)
 
 pub same_by_commas : {path : List ℕ} {whole : Bool} {mode : TrailingCommaMode} {w x : Option Plain} → IsChanged w (texts.set_commas whole path mode) x → x ≡ w
 same_by_commas by_commas = refl
 
 pub some_commas_made : (o : Options) (t u : OrderedTree) (w x : Option Plain) (path : List ℕ) (mode : TrailingCommaMode) → SoundTree o t → SoundTree (allowing mode o) u → x ≡ w → tree_marks.marks u ≡ tree_marks.marks t → OnlyCommas mode t u → (path ≡ []) ⊎ IsChangedAt path t u
     → SetsCommas path (sets_some mode) (document_of o t w) (document_of (allowing mode o) u x)
-some_commas_made o t u w x path mode s r same m h place = (only_commas o mode s r h, (same, ap all_marks m), elim place [ inl whole ↦ inl whole | inr at ↦ inr (within_so o (allowing mode o) s r at.2 w x) ])
+some_commas_made o t u w x path mode s r same m h place = (only_commas o mode s r h w x, (same, ap all_marks m), elim place [ inl whole ↦ inl whole | inr at ↦ inr (within_so o (allowing mode o) s r at.2 w x) ])
 
 -- all of them: none is left, or none is missing
 abbrev pub AreSet : TrailingCommaMode → Options → List ℕ → OrderedTree → OrderedTree → Type 0
@@ -196,4 +198,4 @@ set_at_path IfMultiline o path at a = missing.at_path at a
 pub commas_made : (o : Options) (t u : OrderedTree) (w x : Option Plain) (path : List ℕ) (mode : TrailingCommaMode) → SoundTree (allowing mode o) u → IsDocument (allowing mode o) (printed_text u) x
     → SetsCommas path (sets_some mode) (document_of o t w) (document_of (allowing mode o) u x) → AreSet mode o path t u → Makes (document_of o t w) (texts.set_commas true path mode) (document_of (allowing mode o) u x)
 commas_made o t u w x path Never sound text sets set = (sets, none_left o path sound x text set)
-commas_made o t u w x path IfMultiline sound text sets set = (sets, all_trailing (allowing IfMultiline o) path sound x text set)
+commas_made o t u w x path IfMultiline sound text sets set = (sets, all_trailing (allowing IfMultiline o) path sound x set)

@@ -44,7 +44,7 @@ line_starts documents.line_feed r = record { char = 0x0A; rest = r; is = refl; e
 line_starts documents.carriage_return r = record { char = 0x0D; rest = r; is = refl; ends = refl }
 line_starts documents.both r = record { char = 0x0D; rest = 0x0A ∷ r; is = refl; ends = refl }
 
-further : {o : Options} {a b c : OrderedTree} → Trivia o a b → Trivia o b c → Trivia o a c
+pub further : {o : Options} {a b c : OrderedTree} → Trivia o a b → Trivia o b c → Trivia o a c
 further shape.nothing h = h
 further (shape.trivia t g) h = shape.trivia t (further g h)
 
@@ -133,14 +133,17 @@ opened of_values row = mark_text bracket_mark row
 opened of_properties row = mark_text brace_mark row
 
 -- a container in whose row a line ends
-pub line_inside : (o : Options) (k : RowKind) (row : OrderedTree) {now : Top} {path : List ℕ} {t u : OrderedTree} → SoundTree o t → (d : DocumentChanged (bracketed k row) now path t u) → has_newline row ≡ true → (w : Option Plain)
+pub line_within : (o : Options) (k : RowKind) (row : OrderedTree) {now : Top} {path : List ℕ} {t u : OrderedTree} → SoundTree o t → (d : DocumentChanged (container_of k row) now path t u) → has_newline row ≡ true → (w : Option Plain)
     → HasLineEnd path (document_of o t w)
-line_inside o k row s d h w =
-    let close : OrderedTree = token_then (closing k) none in
-    let with_bracket : OrderedTree = followed_by row close in
+line_within o k row s d h w =
     let place = at_the_place o s d in
     let back : List ℕ = text_of_leaves (back_of d) in
     let read = row_reads o back k place.2 in
-    let line = walk o (kind_of_row k) back with_bracket with_bracket shape.nothing read.0 read.1 (newline_stays row close h) in
-    let own : text_of_leaves (leaves_of (container_of k with_bracket)) ++ back ≡ places.opening (kind_of_row k) ∷ (printed_text with_bracket ++ back) = ap (λ l. l ++ back) (opened k with_bracket) in
-    (kind_of_row k, text_of_leaves (leaves_of (container_of k with_bracket)) ++ back, back, printed_text with_bracket ++ back, line.rest, line.char, place.1, own, line.along, line.ends)
+    let line = walk o (kind_of_row k) back row row shape.nothing read.0 read.1 h in
+    let own : text_of_leaves (leaves_of (container_of k row)) ++ back ≡ places.opening (kind_of_row k) ∷ (printed_text row ++ back) = ap (λ l. l ++ back) (opened k row) in
+    (kind_of_row k, text_of_leaves (leaves_of (container_of k row)) ++ back, back, printed_text row ++ back, line.rest, line.char, place.1, own, line.along, line.ends)
+
+-- between its brackets
+pub line_inside : (o : Options) (k : RowKind) (row : OrderedTree) {now : Top} {path : List ℕ} {t u : OrderedTree} → SoundTree o t → (d : DocumentChanged (bracketed k row) now path t u) → has_newline row ≡ true → (w : Option Plain)
+    → HasLineEnd path (document_of o t w)
+line_inside o k row s d h w = let close : OrderedTree = token_then (closing k) none in line_within o k (followed_by row close) s d (newline_stays row close h) w

@@ -70,7 +70,7 @@ module _ (o : Options) (kind : Kind) (z : List ℕ) where
     is_a_comma : content ≡ token 0x2C → below ≡ none → Read content below after
 
   abbrev pub Last : Content → OrderedTree → OrderedTree → Type 0
-  Last content below after = Stops (more content below after) × (printed_text (more content below after) ++ z ≡ closing kind ∷ z) × (after ≡ none) × (content ≡ token (closing kind))
+  Last content below after = Stops (more content below after) × (printed_text (more content below after) ++ z ≡ closing kind ∷ z) × (after ≡ none) × (content ≡ token (closing kind)) × (below ≡ none)
 
   abbrev pub Reads : OrderedTree → Type 0
   Reads none = ⊥
@@ -85,7 +85,7 @@ module _ (o : Options) (kind : Kind) (z : List ℕ) where
   comma_reads k = inr (is_a_comma refl refl, k)
 
   bracket_reads : {c : ℕ} → c ≡ closing kind → Mark c → Reads (token_then c none)
-  bracket_reads e m = inl (tt, closing_text m z ∙ ap (λ x. x ∷ z) e, refl, ap token e)
+  bracket_reads e m = inl (tt, closing_text m z ∙ ap (λ x. x ∷ z) e, refl, ap token e, refl)
 
   closed_reads : {c : ℕ} {t : OrderedTree} → c ≡ closing kind → Mark c → Closed o c t → Reads t
   closed_reads e m (shape.plain g) = trivia_reads g (bracket_reads e m)

@@ -1,290 +1,250 @@
 -- Where no trailing comma is missing in a tree, none is in its text.
-use Rattle.std.proofs.Common.{ℕ, ◌<◌, ◌≡◌, ◌⊎◌, ◌∙◌, sym, ap, subst, refl, inl, inr, Bool, true, false, not, ◌&&◌, ◌||◌, List, [], ◌∷◌, ◌++◌, length, Option, None, IsTrue, IsUtf8, chars}
-use Rattle.std.proofs.lemmas.List.{append_assoc, append-nil}
-use Rattle.std.proofs.lemmas.Str.{chars-nil}
+use Rattle.std.proofs.Common.{ℕ, suc, ◌≡◌, sym, ap, subst, refl, inl, inr, Bool, true, false, not, ◌&&◌, ◌||◌, List, [], ◌∷◌, ◌++◌, Option, IsTrue}
+use Rattle.std.proofs.lemmas.Bool.{cases_Bool}
+use Rattle.std.proofs.lemmas.List.{append_assoc}
 use Rattle.jsonc_text.specs.Options.{Options}
-use Rattle.jsonc_text.specs.Text.{next, no, Many, stop, step, is_line_end}
-use Rattle.jsonc_text.specs.Gaps.{is_blank, is_in_line, Gap, IsComment, LineComment, line}
-use Rattle.jsonc_text.specs.Words as words
-use Rattle.jsonc_text.specs.Words.{keyword_text}
-use Rattle.jsonc_text.specs.Lexemes as lexemes
-use Rattle.jsonc_text.specs.Lexemes.{block_comment}
 use Rattle.jsonc_text.specs.Plain.{Plain}
-use Rattle.jsonc_text.specs.Grammar.{IsDocument}
-use Rattle.jsonc_run.specs.texts.Paths as places
-use Rattle.jsonc_run.specs.texts.Paths.{Kind, an_array, an_object, closing, LeadsTo, Value}
-use Rattle.jsonc_run.specs.texts.Stretches as documents
-use Rattle.jsonc_run.specs.texts.Stretches.{IsLineEnd}
-use Rattle.jsonc_run.specs.texts.Edits as texts
-use Rattle.jsonc_run.specs.texts.Edits.{Full, FullRow, HasAllTrailing}
 use Rattle.jsonc_text.proofs.Basics.{and_both}
-use Rattle.jsonc_text.proofs.BlockComments.{block_inside}
-use Rattle.jsonc_text.proofs.CharacterSteps.{many_append}
-use Rattle.jsonc_text.proofs.LexemesAlone.{scanned_before}
-use Rattle.jsonc_text.proofs.UniqueValues.{document_unique}
-use Rattle.jsonc_text.proofs.UniqueWords.{many_more}
-use Rattle.jsonc_tree.specs.Content.{Content, text_of}
-use Rattle.jsonc_tree.specs.declared.node.CstNewlineKind.{CstNewlineKind}
-use Rattle.jsonc_tree.specs.OrderedTree.{OrderedTree, Top, none, more, printed}
+use Rattle.jsonc_tree.specs.Content.{Content}
+use Rattle.jsonc_tree.specs.OrderedTree.{OrderedTree, Top, none, more}
+use Rattle.jsonc_tree.specs.Values.{is_passed_over}
 use Rattle.jsonc_layout.specs.nodes.Kinds.{is_comma, is_newline}
-use Rattle.jsonc_layout.specs.lines.Kinds.{is_array_or_object}
 use Rattle.jsonc_sound.specs.Documents.{document_of}
-use Rattle.jsonc_sound.specs.Leaves.{is_inner_blank}
-use Rattle.jsonc_sound.specs.Lines.{is_line_comment, is_loose, ends_loosely, LinesEndLoosely, DocumentLinesEndLoosely}
+use Rattle.jsonc_sound.specs.Rows.{RowKind, of_values, of_properties, container_of}
 use Rattle.jsonc_sound.specs.Shape as shape
-use Rattle.jsonc_sound.specs.Shape.{IsLiteralBefore, IsTrivia, Trivia, Separated, Closed, ValueShaped, ElementsShaped, PropertiesShaped, PropertyShaped, DocumentShaped, token_then, printed_text}
+use Rattle.jsonc_sound.specs.Shape.{IsTrivia, Closed, Separated, Trivia, ValueShaped, ElementsShaped, PropertiesShaped, printed_text, token_then}
 use Rattle.jsonc_sound.specs.SoundTrees.{SoundTree}
-use Rattle.jsonc_sound.specs.TreeChanges.{leaves_of, IsElement, DocumentChanged}
-use Rattle.jsonc_sound.proofs.FirstNodes.{value_element}
-use Rattle.jsonc_sound.proofs.LooseLines.{Stops, comment_takes, elements_stop, inner_blanks, leaf_then, properties_stop, value_stops, trivia_gap}
-use Rattle.jsonc_sound.proofs.ShapeTexts.{begins_line, newline_no_line, text_leaf, text_more, trivia_some}
+use Rattle.jsonc_sound.specs.TreeChanges.{IsElement, ElementChanged, this_element, passed, later_element, ValueChanged, itself, in_array, in_object, DocumentChanged, in_root, property_of}
+use Rattle.jsonc_sound.proofs.FirstNodes.{no_element, none_changed, trivia_over, value_element}
 use Rattle.jsonc_edit.specs.commas.Laws.{element_last, is_full, row_is_full}
+use Rattle.jsonc_edit.specs.multiline.Reflows.{has_newline}
 use Rattle.jsonc_run.specs.Written.{IsChangedAt}
+use Rattle.jsonc_run.specs.texts.Paths.{closing, Entry}
+use Rattle.jsonc_run.specs.texts.Entering.{HasLineEnd}
+use Rattle.jsonc_run.specs.texts.Edits.{HasAllTrailing, HasTrailing}
 use Rattle.jsonc_run.specs.promise.PlaceLaws.{text_of_leaves}
-use Rattle.jsonc_run.proofs.lemmas.promise.Leaves.{back_of}
-use Rattle.jsonc_sound.proofs.ShapeValues.{Carries, Mark, bracket_mark, brace_mark, carries_more, close_brace_mark, close_bracket_mark, closed_some, closing_text, colon_mark, comma_mark, elements_some, mark_some, mark_text, name_stands, name_utf8, node_text, null_chars, properties_some, property_utf8, root_text, separated_some, value_stands, value_utf8, word_chars}
+use Rattle.jsonc_run.proofs.lemmas.promise.CommasByPaths.{after_reads, back_leaves, entry_text, trailing_text}
+use Rattle.jsonc_run.proofs.lemmas.promise.CommasCome.{row_after}
+use Rattle.jsonc_run.proofs.lemmas.promise.FoundNodes.{after_separated, after_trivia, behind_separated, behind_trivia, entry_found, FoundEntry}
+use Rattle.jsonc_run.proofs.lemmas.promise.LacksLines.{lacks_within}
+use Rattle.jsonc_run.proofs.lemmas.promise.Leaves.{row_back, back_of}
+use Rattle.jsonc_run.proofs.lemmas.promise.LooseRows.{kind_of_row, row_reads}
+use Rattle.jsonc_run.proofs.lemmas.promise.TrailingRows.{TrailsOff}
 use Rattle.jsonc_run.proofs.lemmas.promise.Reversed.{flip}
-use Rattle.jsonc_run.proofs.lemmas.promise.Trivia.{line_end_text}
-use Rattle.jsonc_run.proofs.lemmas.promise.Values.{at_the_place, node_leaves}
+use Rattle.jsonc_run.proofs.lemmas.promise.Values.{at_the_place}
 
 -- no trailing comma is missing in the whole tree, or in the value at the path
 pub data NoneMissing (path : List ℕ) (t u : OrderedTree) : Type 0 where
   anywhere : (row : OrderedTree) → path ≡ [] → u ≡ more Content.root row none → IsTrue (is_full Content.root row) → NoneMissing path t u
   at_path : (at : IsChangedAt path t u) → IsTrue (is_full at.1.content at.1.below) → NoneMissing path t u
 
-no_line_element : (content : Content) → IsElement content → is_newline content ≡ false
-no_line_element (Content.newline k) e = cc
-no_line_element content e = refl
+-- so it is of an element of a row, and of a value of a value
+row_full_at : {y z : Top} {row new : OrderedTree} {i : ℕ} (holds line last : Bool) → IsTrue (row_is_full holds line last row) → ElementChanged y z i row new → IsTrue (is_full y.content y.below)
+row_full_at {y} holds line last f (this_element {after = after} p q) = (and_both (is_full y.content y.below) (row_is_full holds (is_newline y.content || line) (element_last last y.content) after) f).0
+row_full_at holds line last f (passed {content = content} {below = below} {x = after} p e) = row_full_at holds (is_newline content || line) (element_last last content) (and_both (is_full content below) (row_is_full holds (is_newline content || line) (element_last last content) after) f).1 e
+row_full_at holds line last f (later_element {content = content} {below = below} {x = after} p e) = row_full_at holds (is_newline content || line) (element_last last content) (and_both (is_full content below) (row_is_full holds (is_newline content || line) (element_last last content) after) f).1 e
 
-never : (b : Bool) → IsTrue (not b) → b ≡ false
-never true h = cc
-never false h = refl
+value_full_at : {y v x z : Top} {p : List ℕ} → IsTrue (is_full x.content x.below) → ValueChanged y v p x z → IsTrue (is_full y.content y.below)
+value_full_at f itself = f
+value_full_at f (in_array e h) = value_full_at (row_full_at true false false f e) h
+value_full_at f (in_object e g h) = value_full_at (row_full_at false false false (row_full_at true false false f e) g) h
 
-is_of_line : (s : List ℕ) → IsUtf8 s → LineComment (chars s) [] → IsTrue (is_line_comment (Content.comment s))
-is_of_line s u c = by (chars s) refl c
-  where
-    by : (x : List ℕ) → chars s ≡ x → LineComment x [] → IsTrue (is_line_comment (Content.comment s))
-    by _ e (line m n) = begins_line s u e
+below_root : {row : OrderedTree} {y z : Top} {q : List ℕ} {v : OrderedTree} → DocumentChanged y z q (more Content.root row none) v → IsTrue (is_full Content.root row) → IsTrue (is_full y.content y.below)
+below_root (in_root e h) f = value_full_at (row_full_at false false false f e) h
 
-closed_full : (kind : Kind) (l e : Bool) → IsTrue (row_is_full true l e (token_then (closing kind) none)) → IsTrue (not (l && e))
-closed_full an_array l e f = f
-closed_full an_object l e f = f
+root_full_at : {row t : OrderedTree} {y z : Top} {q : List ℕ} {v : OrderedTree} → t ≡ more Content.root row none → DocumentChanged y z q t v → IsTrue (is_full Content.root row) → IsTrue (is_full y.content y.below)
+root_full_at {y = y} {z = z} {q = q} {v = v} e d f = below_root (subst (λ t. DocumentChanged y z q t v) e d) f
 
-bracket_stops : (kind : Kind) → Stops (token_then (closing kind) none)
-bracket_stops an_array = tt
-bracket_stops an_object = tt
+-- one node stands at a place
+one_element : {a b y z : Top} {i : ℕ} {row new other : OrderedTree} → ElementChanged a b i row new → ElementChanged y z i row other → a ≡ y
+one_element (this_element p q) (this_element r s) = refl
+one_element (this_element p q) (passed h k) = absurd (no_element _ p h)
+one_element (passed h e) (this_element p q) = absurd (no_element _ p h)
+one_element (passed h e) (passed k f) = one_element e f
+one_element (passed h e) (later_element k f) = absurd (no_element _ k h)
+one_element (later_element h e) (passed k f) = absurd (no_element _ h k)
+one_element (later_element h e) (later_element k f) = one_element e f
 
-module _ (o : Options) (kind : Kind) (z : List ℕ) where
-  abbrev text : OrderedTree → List ℕ
-  text row = printed_text row ++ z
+-- what stands further inside stands in what stands there
+further_in : {a b y z : Top} {p q : List ℕ} {x v w : Top} → ValueChanged a b p x v → ValueChanged y z (p ++ q) x w → (s : Top) × ValueChanged y z q a s
+further_in {w = w} itself h = (w, h)
+further_in {y = y} {z = z} (in_array {x = c} e h) (in_array {path = r} {x = d} {y = n} f k) = further_in h (subst (λ (s : Top). ValueChanged y z r s n) (sym (one_element e f)) k)
+further_in {y = y} {z = z} (in_object {x = c} {held = held} e g h) (in_object {path = r} {x = d} {y = n} {held = own} {given = given} f j k) =
+    let same : own ≡ held = sym (ap (λ (s : Top). s.below) (one_element e f)) in
+    let inner : ElementChanged d n 1 held given = subst (λ l. ElementChanged d n 1 l given) same j in
+    further_in h (subst (λ (s : Top). ValueChanged y z r s n) (sym (one_element g inner)) k)
 
-  abbrev Reads : Bool → Bool → OrderedTree → Type 0
-  Reads l e row = FullRow o kind l e (text row) z
+further_document : {a b y z : Top} {p q : List ℕ} {t u v : OrderedTree} → DocumentChanged a b p t u → DocumentChanged y z (p ++ q) t v → (s : Top) × ValueChanged y z q a s
+further_document {y = y} {z = z} {p = p} {q = q} (in_root e h) (in_root {y = n} f k) = further_in h (subst (λ (s : Top). ValueChanged y z (p ++ q) s n) (sym (one_element e f)) k)
 
-  blanks : {s r : List ℕ} {l e : Bool} (t : List ℕ) → Many is_inner_blank s r → r ≡ [] → FullRow o kind l e t z → FullRow o kind l e (s ++ t) z
-  blanks {l = l} {e = e} t stop q h = subst (λ x. FullRow o kind l e (x ++ t) z) (sym q) h
-  blanks {l = l} {e = e} t (step {c = c} {t = s} p m) q h =
-      let both = and_both (is_blank c) (not (is_line_end c)) p in
-      texts.blank both.0 (subst (λ b. FullRow o kind (b || l) e (s ++ t) z) (sym (never (is_line_end c) both.1)) (blanks t m q h))
+-- behind trivia
+last_past : (content : Content) (b : Bool) → IsTrue (is_passed_over content) → is_comma content ≡ false → element_last b content ≡ b
+last_past (Content.whitespace s) b h e = refl
+last_past (Content.newline k) b h e = refl
+last_past (Content.comment s) b h e = refl
+last_past (Content.token c) b h e = ap (λ k. not k && b) e
+last_past content b h e = cc
 
-  line_end : {s : List ℕ} {l e : Bool} (t : List ℕ) → IsLineEnd s → FullRow o kind true e t z → FullRow o kind l e (s ++ t) z
-  line_end t documents.line_feed h = texts.blank refl h
-  line_end t documents.carriage_return h = texts.blank refl h
-  line_end t documents.both h = texts.blank refl (texts.blank refl h)
-
-  newline_reads : {l e : Bool} (k : CstNewlineKind) (t : OrderedTree) → Reads true e t → Reads l e (more (Content.newline k) none t)
-  newline_reads {l} {e} k t h =
-      let own : chars (text_of (Content.newline k)) ≡ text_of_leaves (Content.newline k ∷ []) = ap chars (sym (append-nil (text_of (Content.newline k)))) in
-      subst (λ x. FullRow o kind l e x z) (sym (leaf_then o z (Content.newline k) t tt)) (line_end (text t) (subst IsLineEnd (sym own) (line_end_text k)) h)
-
-  -- blanks of t up to a line's end, from which on it is the row
-  record Skipped (l e : Bool) (t : List ℕ) : Type 0 where
-    blank : List ℕ
-    rest : List ℕ
-    split : t ≡ blank ++ rest
-    in_line : Many is_in_line blank []
-    ends : IsTrue (no is_in_line (next rest))
-    row : FullRow o kind l e rest z
-
-  comment_row : (s t : List ℕ) {l e : Bool} → IsTrivia o (Content.comment s) → FullRow o kind l e t z → (IsTrue (is_line_comment (Content.comment s)) → Skipped l e t) → FullRow o kind l e (chars s ++ t) z
-  comment_row s t {l} {e} h g f = by h.1.1
-    where
-      by : IsComment (chars s) [] → FullRow o kind l e (chars s ++ t) z
-      by (inl c) =
-          let k = f (is_of_line s h.1.0 c) in
-          texts.comment (inl (subst (λ x. LineComment (chars s ++ x) k.rest) (sym k.split) (comment_takes (chars s) k.blank k.rest c k.in_line k.ends))) k.row
-      by (inr b) =
-          let inside = block_inside b in
-          texts.comment (inr (scanned_before o (block_comment inside.0) (chars s) t (b, inside.1) tt).0) g
-
-  stopped : {l e : Bool} (row : OrderedTree) → Stops row → IsTrue (ends_loosely true false row) → Skipped l e (text row)
-  stopped none s h = cc
-  stopped (more (Content.newline k) below after) s h = absurd s
-  stopped (more (Content.whitespace w) below after) s h = absurd s
-  stopped (more content below after) s h = cc
-
-  -- behind trivia the row goes on
-  abbrev Goes : Bool → OrderedTree → Type 0
-  Goes e r = (l : Bool) → LinesEndLoosely true false r → IsTrue (row_is_full true l e r) → Reads l e r
-
-  mutual
-    trivia_reads : {t r : OrderedTree} {l e : Bool} → Stops r → Trivia o t r → LinesEndLoosely true false t → IsTrue (row_is_full true l e t) → Goes e r → Reads l e t
-    trivia_reads {l = l} s shape.nothing ends f k = k l ends f
-    trivia_reads {l = l} {e = e} s (shape.trivia {content = Content.comment c} {t = t} h g) ends f k =
-        subst (λ x. FullRow o kind l e x z) (sym (leaf_then o z (Content.comment c) t h)) (comment_row c (text t) h (trivia_reads s g ends.2 f k) (λ q. skip s g ends.2 f k (ends.0 q)))
-    trivia_reads {l = l} {e = e} s (shape.trivia {content = Content.whitespace w} {t = t} h g) ends f k =
-        subst (λ x. FullRow o kind l e x z) (sym (leaf_then o z (Content.whitespace w) t h)) (blanks (text t) h.1 refl (trivia_reads s g ends.2 f k))
-    trivia_reads {l = l} {e = e} s (shape.trivia {content = Content.newline n} {t = t} h g) ends f k = newline_reads n t (trivia_reads s g ends.2 f k)
-    trivia_reads s (shape.trivia h g) ends f k = absurd h
-
-    skip : {t r : OrderedTree} {l e : Bool} → Stops r → Trivia o t r → LinesEndLoosely true false t → IsTrue (row_is_full true l e t) → Goes e r → IsTrue (ends_loosely true false t) → Skipped l e (text t)
-    skip {r = r} s shape.nothing ends f k q = stopped r s q
-    skip s (shape.trivia {content = Content.newline n} {t = t} h g) ends f k q = record {
-      blank = [];
-      rest = text (more (Content.newline n) none t);
-      split = refl;
-      in_line = stop;
-      ends = subst (λ x. IsTrue (no is_in_line (next x))) (sym (leaf_then o z (Content.newline n) t h)) (newline_no_line n (text t));
-      row = newline_reads n t (trivia_reads s g ends.2 f k);
-    }
-    skip s (shape.trivia {content = Content.whitespace w} {t = t} h g) ends f k q =
-        let m = skip s g ends.2 f k q in
-        record {
-          blank = chars w ++ m.blank;
-          rest = m.rest;
-          split = leaf_then o z (Content.whitespace w) t h ∙ ap (λ x. chars w ++ x) m.split ∙ sym (append_assoc (chars w) m.blank m.rest);
-          in_line = many_append (many_more (inner_blanks h.1) m.blank) m.in_line;
-          ends = m.ends;
-          row = m.row;
-        }
-    skip s (shape.trivia h g) ends f k q = cc
-
-  -- the last bracket
-  bracket_reads : {l e : Bool} → Mark (closing kind) → IsTrue (row_is_full true l e (token_then (closing kind) none)) → Reads l e (token_then (closing kind) none)
-  bracket_reads {l} {e} m f = subst (λ x. FullRow o kind l e x z) (sym (closing_text m z)) (texts.closes (closed_full kind l e f))
-
-  comma_reads : {l e : Bool} (row : OrderedTree) → Reads l false row → Reads l e (token_then 0x2C row)
-  comma_reads {l} {e} row h = subst (λ x. FullRow o kind l e x z) (sym (ap (λ t. t ++ z) (mark_text comma_mark row))) (texts.comma h)
-
-  closed_reads : {row : OrderedTree} {l e : Bool} → Mark (closing kind) → Closed o (closing kind) row → LinesEndLoosely true false row → IsTrue (row_is_full true l e row) → Reads l e row
-  closed_reads m (shape.plain g) ends f = trivia_reads (bracket_stops kind) g ends f (λ l after h. bracket_reads m h)
-  closed_reads m (shape.trailing_comma {u = u} x g h) ends f =
-      trivia_reads tt g ends f (λ l after c. comma_reads u (trivia_reads (bracket_stops kind) h after.2 c (λ l later b. bracket_reads m b)))
-
-  separated_reads : {row next : OrderedTree} {l : Bool} → Stops next → Separated o row next → LinesEndLoosely true false row → IsTrue (row_is_full true l true row) → Goes true next → Goes false next → Reads l true row
-  separated_reads s (shape.comma {u = u} g h) ends f k j = trivia_reads tt g ends f (λ l after c. comma_reads u (trivia_reads s h after.2 c j))
-  separated_reads s (shape.no_comma x g) ends f k j = trivia_reads s g ends f k
-
--- values, and the rows of arrays and objects
 module _ (o : Options) where
-  -- a node is a full value before z
-  abbrev Stands : Content → OrderedTree → List ℕ → Type 0
-  Stands content below z = Full o (chars (text_of content ++ printed below) ++ z) z
+  trivia_comma : (content : Content) → IsTrivia o content → is_comma content ≡ false
+  trivia_comma (Content.whitespace s) h = refl
+  trivia_comma (Content.newline k) h = refl
+  trivia_comma (Content.comment s) h = refl
+  trivia_comma content h = absurd h
 
-  literal_full : (content : Content) {r : List ℕ} (z : List ℕ) → Carries o r z → IsLiteralBefore o content r → Stands content none z
-  literal_full (Content.string s) z f (v, (u, h)) = subst (λ b. Full o (chars b ++ z) z) (sym (append-nil s)) (texts.literal (lexemes.string v) (f (lexemes.string v) (chars s) h) refl)
-  literal_full (Content.number s) z f (u, h) = subst (λ b. Full o (chars b ++ z) z) (sym (append-nil s)) (texts.literal (lexemes.number (chars s)) (f (lexemes.number (chars s)) (chars s) h) refl)
-  literal_full (Content.boolean b) z f h =
-      let text : keyword_text (words.boolean b) ≡ chars (text_of (Content.boolean b) ++ []) = sym (ap chars (append-nil (text_of (Content.boolean b))) ∙ word_chars b) in
-      subst (λ t. Full o (t ++ z) z) text (texts.literal (lexemes.keyword (words.boolean b)) (f (lexemes.keyword (words.boolean b)) (keyword_text (words.boolean b)) (refl, h)) refl)
-  literal_full Content.null z f h =
-      let text : keyword_text words.null ≡ chars (text_of Content.null ++ []) = sym (ap chars (append-nil (text_of Content.null)) ∙ null_chars) in
-      subst (λ t. Full o (t ++ z) z) text (texts.literal (lexemes.keyword words.null) (f (lexemes.keyword words.null) (keyword_text words.null) (refl, h)) refl)
-  literal_full content z f h = absurd h
+  -- in what follows a line has ended, or ends
+  abbrev Line : Bool → OrderedTree → Type 0
+  Line line row = (line || has_newline row) ≡ true
 
-  -- behind an element of a row
-  behind_element : (l e : Bool) (content : Content) (below after : OrderedTree) → IsElement content → IsTrue (row_is_full true l e (more content below after)) → IsTrue (is_full content below) × IsTrue (row_is_full true l true after)
-  behind_element l e content below after is f =
-      let both = and_both (is_full content below) (row_is_full true (is_newline content || l) (element_last e content) after) f in
-      (both.0, subst (λ b. IsTrue (row_is_full true l b after)) (ap (λ b. b || (not (is_comma content) && e)) is) (subst (λ b. IsTrue (row_is_full true (b || l) (element_last e content) after)) (no_line_element content is) both.1))
+  line_past : (content : Content) (below after : OrderedTree) (line : Bool) → Line line (more content below after) → Line (is_newline content || line) after
+  line_past content below after line h = by (is_newline content) line (has_newline after) h
+    where
+      by : (a b c : Bool) → (b || (a || c)) ≡ true → ((a || b) || c) ≡ true
+      by true b c h = refl
+      by false b c h = h
 
-  -- past trivia, where no comma is asked for
-  past : {t r : OrderedTree} (l e : Bool) → Trivia o t r → IsTrue (row_is_full false l e t) → (m : Bool) × (d : Bool) × IsTrue (row_is_full false m d r)
-  past l e shape.nothing f = (l, e, f)
-  past l e (shape.trivia {content = content} {t = t} h g) f =
-      past (is_newline content || l) (element_last e content) g (and_both (row_is_full (is_array_or_object content) false false none) (row_is_full false (is_newline content || l) (element_last e content) t) f).1
+  -- past trivia
+  record PastTrivia (last : Bool) (r : OrderedTree) : Type 0 where
+    line : Bool
+    full : IsTrue (row_is_full true line last r)
+    ends : Line line r
 
-  mutual
-    value_full : {content : Content} {below : OrderedTree} {r : List ℕ} (z : List ℕ) → Carries o r z → ValueShaped o content below r → LinesEndLoosely (is_loose content) false below → IsTrue (is_full content below) → Stands content below z
-    value_full z f (shape.literal {content = content} h) ends full = literal_full content z f h
-    value_full z f (shape.empty_array {t = t} g) ends full =
-        subst (λ x. Full o (x ++ z) z) (sym (mark_text bracket_mark t)) (texts.container an_array (trivia_reads o an_array z tt g ends.2 full (λ l later h. bracket_reads o an_array z close_bracket_mark h)))
-    value_full z f (shape.array {t = t} g e) ends full =
-        subst (λ x. Full o (x ++ z) z) (sym (mark_text bracket_mark t)) (texts.container an_array (trivia_reads o an_array z (elements_stop e) g ends.2 full (λ l later h. elements_full z e later h)))
-    value_full z f (shape.empty_object {t = t} g) ends full =
-        subst (λ x. Full o (x ++ z) z) (sym (mark_text brace_mark t)) (texts.container an_object (trivia_reads o an_object z tt g ends.2 full (λ l later h. bracket_reads o an_object z close_brace_mark h)))
-    value_full z f (shape.object {t = t} g p) ends full =
-        subst (λ x. Full o (x ++ z) z) (sym (mark_text brace_mark t)) (texts.container an_object (trivia_reads o an_object z (properties_stop p) g ends.2 full (λ l later h. properties_full z p later h)))
+  past_trivia : {t r : OrderedTree} (line last : Bool) → Trivia o t r → IsTrue (row_is_full true line last t) → Line line t → PastTrivia last r
+  past_trivia line last shape.nothing f l = record { line = line; full = f; ends = l }
+  past_trivia line last (shape.trivia {content = content} {t = t} h g) f l =
+      let rest = (and_both (is_full content none) (row_is_full true (is_newline content || line) (element_last last content) t) f).1 in
+      past_trivia (is_newline content || line) last g
+      (subst (λ b. IsTrue (row_is_full true (is_newline content || line) b t)) (last_past content last (trivia_over o content h) (trivia_comma content h)) rest) (line_past content none t line l)
 
-    elements_full : {row : OrderedTree} {l e : Bool} (z : List ℕ) → ElementsShaped o row → LinesEndLoosely true false row → IsTrue (row_is_full true l e row) → FullRow o an_array l e (printed_text row ++ z) z
-    elements_full {l = l} {e = e} z (shape.last_element {content = content} {below = below} {after = after} v c) ends full =
-        let f = behind_element l e content below after (value_element v) full in
-        let one = value_full (printed_text after ++ z) (carries_more o (printed_text after) z (closed_some o close_bracket_mark c)) v ends.1 f.0 in
-        subst (λ x. FullRow o an_array l e x z) (node_text o content below after z (value_utf8 o v)) (texts.an_entry refl one (closed_reads o an_array z close_bracket_mark c ends.2 f.1))
-    elements_full {l = l} {e = e} z (shape.element {content = content} {below = below} {after = after} v s g) ends full =
-        let f = behind_element l e content below after (value_element v) full in
-        let one = value_full (printed_text after ++ z) (carries_more o (printed_text after) z (separated_some o s (elements_some o g))) v ends.1 f.0 in
-        subst (λ x. FullRow o an_array l e x z) (node_text o content below after z (value_utf8 o v))
-        (texts.an_entry refl one (separated_reads o an_array z (elements_stop g) s ends.2 f.1 (λ l later h. elements_full z g later h) (λ l later h. elements_full z g later h)))
+  comma_line : (t : OrderedTree) (line : Bool) → Line line (token_then 0x2C t) → Line line t
+  comma_line t line h = h
 
-    properties_full : {row : OrderedTree} {l e : Bool} (z : List ℕ) → PropertiesShaped o row → LinesEndLoosely true false row → IsTrue (row_is_full true l e row) → FullRow o an_object l e (printed_text row ++ z) z
-    properties_full {l = l} {e = e} z (shape.last_property {below = below} {after = after} p c) ends full =
-        let f = behind_element l e Content.property below after refl full in
-        let one = property_full (printed_text after ++ z) (carries_more o (printed_text after) z (closed_some o close_brace_mark c)) p ends.1 f.0 in
-        subst (λ x. FullRow o an_object l e x z) (node_text o Content.property below after z (property_utf8 o p)) (texts.an_entry one.1 one.2 (closed_reads o an_object z close_brace_mark c ends.2 f.1))
-    properties_full {l = l} {e = e} z (shape.property {below = below} {after = after} p s g) ends full =
-        let f = behind_element l e Content.property below after refl full in
-        let one = property_full (printed_text after ++ z) (carries_more o (printed_text after) z (separated_some o s (properties_some o g))) p ends.1 f.0 in
-        subst (λ x. FullRow o an_object l e x z) (node_text o Content.property below after z (property_utf8 o p))
-        (texts.an_entry one.1 one.2 (separated_reads o an_object z (properties_stop g) s ends.2 f.1 (λ l later h. properties_full z g later h) (λ l later h. properties_full z g later h)))
+  -- no row ends with an element where a line ends in it
+  bare_bracket : (k : RowKind) (line : Bool) → Line line (token_then (closing (kind_of_row k)) none) → IsTrue (row_is_full true line true (token_then (closing (kind_of_row k)) none)) → ⊥
+  bare_bracket of_values true l f = cc
+  bare_bracket of_values false l f = cc
+  bare_bracket of_properties true l f = cc
+  bare_bracket of_properties false l f = cc
 
-    -- the value of a property
-    property_full : {row : OrderedTree} {r : List ℕ} (z : List ℕ) → Carries o r z → PropertyShaped o row r → LinesEndLoosely false false row → IsTrue (row_is_full false false false row) → (u : List ℕ) × LeadsTo o an_object (printed_text row ++ z) u × Full o u z
-    property_full z f (shape.named {name = name} {content = content} {below = below} {after = after} {u = u} n g h v) ends full =
-        let before = trivia_gap o z false false (λ e. cc) tt g ends.2 in
-        let behind = trivia_gap o z false false (λ e. cc) (value_stops none v) h before.1.2 in
-        let first = past (is_newline name || false) (element_last false name) g (and_both (row_is_full (is_array_or_object name) false false none) (row_is_full false (is_newline name || false) (element_last false name) after) full).1 in
-        let second = past first.0 first.1 h first.2 in
-        let own = and_both (is_full content below) (row_is_full false (is_newline content || second.0) (element_last second.1 content) none) second.2 in
-        let one = value_full z f v behind.1.1 own.0 in
-        let some : 0 < length (printed_text after) = trivia_some o g (mark_some colon_mark u) in
-        let called = name_stands o name (printed_text after ++ z) (carries_more o (printed_text after) z some) n in
-        let value_text : printed_text (more content below none) ≡ chars (text_of content ++ printed below) = text_more content below none (value_utf8 o v) ∙ ap (λ t. chars (text_of content ++ printed below) ++ t) chars-nil ∙ append-nil (chars (text_of content ++ printed below)) in
-        let row_text : chars (text_of name) ++ (printed_text after ++ z) ≡ printed_text (more name none after) ++ z = sym (ap (λ t. t ++ z) (text_leaf name after (name_utf8 o name _ n)) ∙ append_assoc (chars (text_of name)) (printed_text after) z) in
-        let leads : LeadsTo o an_object (chars (text_of name) ++ (printed_text after ++ z)) (chars (text_of content ++ printed below) ++ z) =
-        (called.0, printed_text after ++ z, printed_text u ++ z, called.1, subst (Gap o _) (ap (λ t. t ++ z) (mark_text colon_mark u)) before.0, subst (Gap o _) (ap (λ t. t ++ z) value_text) behind.0) in
-        (_, subst (λ x. LeadsTo o an_object x (chars (text_of content ++ printed below) ++ z)) row_text leads, one)
+  -- the last element of a row, behind which it trails off
+  record LastTrails (k : RowKind) (z : List ℕ) (row : OrderedTree) : Type 0 where
+    i : ℕ
+    y : Top
+    at : ElementChanged y y i row row
+    named : k ≡ of_properties → y.content ≡ Content.property
+    off : TrailsOff o (kind_of_row k) z (row_after at)
 
-  -- where the value at the path lacks none
-  value_all : {was now : Top} {path : List ℕ} {t u : OrderedTree} → SoundTree o u → DocumentChanged was now path t u → IsTrue (is_full now.content now.below) → (a : List ℕ) × (r : List ℕ) × Value path o (printed_text u) a r × Full o a r
-  value_all {now = now} sound d full =
-      let m = at_the_place o sound (flip d) in
-      let back : List ℕ = text_of_leaves (back_of (flip d)) in
-      let one = value_full back m.2.carries m.2.shaped m.2.lines full in
-      (text_of_leaves (leaves_of now) ++ back, back, m.1, subst (λ w. Full o (w ++ back) back) (node_leaves o now) one)
+  trails_closed : (k : RowKind) (z : List ℕ) {row : OrderedTree} (line : Bool) → Closed o (closing (kind_of_row k)) row → IsTrue (row_is_full true line true row) → Line line row → TrailsOff o (kind_of_row k) z row
+  trails_closed k z line (shape.plain g) f l = let m = past_trivia line true g f l in absurd (bare_bracket k m.line m.ends m.full)
+  trails_closed k z line (shape.trailing_comma {u = u} x g h) f l = record { rest = u; to_comma = g; to_bracket = h }
 
-  -- where the whole document lacks none
-  whole_all : {u row : OrderedTree} → DocumentShaped o u → DocumentLinesEndLoosely u → u ≡ more Content.root row none → IsTrue (is_full Content.root row) → (x : Option Plain) → IsDocument o (printed_text u) x
-      → (x ≡ None) ⊎ ((a : List ℕ) × (r : List ℕ) × Value [] o (printed_text u) a r × Full o a r)
-  whole_all (shape.no_value {row = row} g) (row2, e, l) is full x text =
-      let same : row2 ≡ row = cc in
-      let gap = trivia_gap o [] false true (λ e. refl) tt g (subst (LinesEndLoosely false true) same l) in
-      let nothing : Gap o (printed_text (more Content.root row none)) [] =
-      subst (λ t. Gap o t []) (append-nil (printed_text row) ∙ sym (root_text o row)) (subst (Gap o _) (ap (λ t. t ++ []) chars-nil) gap.0) in
-      inl (sym (document_unique o (printed_text (more Content.root row none)) None x nothing text))
-  whole_all {row = r} (shape.a_value {content = content} {row = row} {below = below} {after = after} g v h) (row2, e, l) is full x text =
-      let same : row2 ≡ row = cc in
-      let its : r ≡ row = cc in
-      let before = trivia_gap o [] false true (λ e. refl) (value_stops after v) g (subst (LinesEndLoosely false true) same l) in
-      let first = past false false g (subst (λ y. IsTrue (is_full Content.root y)) its full) in
-      let own = and_both (is_full content below) (row_is_full false (is_newline content || first.0) (element_last first.1 content) after) first.2 in
-      let one = value_stands o (printed_text after) (λ k s x. x) v before.1.1 in
-      let here : List ℕ = chars (text_of content ++ printed below) ++ printed_text after in
-      let start : Gap o (printed_text (more Content.root row none)) here =
-      subst (λ t. Gap o t here) (append-nil (printed_text row) ∙ sym (root_text o row)) (subst (Gap o _) (append-nil (printed_text (more content below after)) ∙ text_more content below after (value_utf8 o v)) before.0) in
-      inr (here, printed_text after, (here, start, places.itself one.1), value_full (printed_text after) (λ k s x. x) v before.1.1 own.0)
+  -- past what stands between two elements
+  past_separated : {t r : OrderedTree} (line : Bool) → Separated o t r → IsTrue (row_is_full true line true t) → Line line t → (b : Bool) × PastTrivia b r
+  past_separated line (shape.comma {u = u} g h) f l =
+      let m = past_trivia line true g f l in
+      let rest = (and_both (is_full (Content.token 0x2C) none) (row_is_full true m.line false u) m.full).1 in
+      (false, past_trivia m.line false h rest (comma_line u m.line m.ends))
+  past_separated line (shape.no_comma x g) f l = (true, past_trivia line true g f l)
 
-  pub all_trailing : (path : List ℕ) {t u : OrderedTree} → SoundTree o u → (x : Option Plain) → IsDocument o (printed_text u) x → NoneMissing path t u → HasAllTrailing path (document_of o u x)
-  all_trailing path sound x text (at_path at full) = inr (value_all sound at.2 full)
-  all_trailing path {u = u} sound x text (anywhere row e is full) =
-      subst (λ p. HasAllTrailing p (document_of o u x)) (sym e) (whole_all sound.shaped sound.lines is full x text)
+  element_line : (content : Content) → IsElement content → is_newline content ≡ false
+  element_line (Content.newline k) h = cc
+  element_line content h = refl
+
+  behind_element : (line last : Bool) (content : Content) (below after : OrderedTree) → IsElement content → IsTrue (row_is_full true line last (more content below after)) → Line line (more content below after)
+      → IsTrue (row_is_full true line true after) × Line line after
+  behind_element line last content below after h f l =
+      let rest = (and_both (is_full content below) (row_is_full true (is_newline content || line) (element_last last content) after) f).1 in
+      let is : element_last last content ≡ true = ap (λ b. b || (not (is_comma content) && last)) h in
+      let line_is : (is_newline content || line) ≡ line = ap (λ b. b || line) (element_line content h) in
+      (subst (λ b. IsTrue (row_is_full true b true after)) line_is (subst (λ b. IsTrue (row_is_full true (is_newline content || line) b after)) is rest), subst (λ b. Line b after) line_is (line_past content below after line l))
+
+  lift : {k : RowKind} {z : List ℕ} {t u : OrderedTree} {content : Content} {below : OrderedTree} → IsElement content → Separated o t u → LastTrails k z u → LastTrails k z (more content below t)
+  lift {k} {z} h s m = record {
+    i = suc m.i;
+    y = m.y;
+    at = later_element h (behind_separated o s m.at);
+    named = m.named;
+    off = subst (TrailsOff o (kind_of_row k) z) (sym (after_separated o s m.at)) m.off;
+  }
+
+  elements_trail : (z : List ℕ) {row : OrderedTree} (line last : Bool) → ElementsShaped o row → IsTrue (row_is_full true line last row) → Line line row → LastTrails of_values z row
+  elements_trail z line last (shape.last_element {content = content} {below = below} {after = after} v c) f l =
+      let e = value_element v in
+      let b = behind_element line last content below after e f l in
+      record { i = 0; y = record { content = content; below = below }; at = this_element e e; named = λ n. cc; off = trails_closed of_values z line c b.0 b.1 }
+  elements_trail z line last (shape.element {content = content} {below = below} {after = after} v s g) f l =
+      let e = value_element v in
+      let b = behind_element line last content below after e f l in
+      let p = past_separated line s b.0 b.1 in
+      lift e s (elements_trail z p.1.line p.0 g p.1.full p.1.ends)
+
+  properties_trail : (z : List ℕ) {row : OrderedTree} (line last : Bool) → PropertiesShaped o row → IsTrue (row_is_full true line last row) → Line line row → LastTrails of_properties z row
+  properties_trail z line last (shape.last_property {below = below} {after = after} p c) f l =
+      let b = behind_element line last Content.property below after refl f l in
+      record { i = 0; y = property_of below; at = this_element refl refl; named = λ n. refl; off = trails_closed of_properties z line c b.0 b.1 }
+  properties_trail z line last (shape.property {below = below} {after = after} p s g) f l =
+      let b = behind_element line last Content.property below after refl f l in
+      let q = past_separated line s b.0 b.1 in
+      lift {k = of_properties} refl s (properties_trail z q.1.line q.0 g q.1.full q.1.ends)
+
+  lift_trivia : {k : RowKind} {z : List ℕ} {t u : OrderedTree} → Trivia o t u → LastTrails k z u → LastTrails k z t
+  lift_trivia {k} {z} g m = record { i = m.i; y = m.y; at = behind_trivia o g m.at; named = m.named; off = subst (TrailsOff o (kind_of_row k) z) (sym (after_trivia o g m.at)) m.off }
+
+  no_entry_closes : {y z : Top} {i c : ℕ} {t u : OrderedTree} → Trivia o t (token_then c none) → ElementChanged y z i t u → ⊥
+  no_entry_closes {c = c} g e = none_changed (past_token_of c (rows_past_trivia g e).1).1
+    where
+      rows_past_trivia : {y z : Top} {i : ℕ} {t r u : OrderedTree} → Trivia o t r → ElementChanged y z i t u → (n : OrderedTree) × ElementChanged y z i r n
+      rows_past_trivia {u = u} shape.nothing e = (u, e)
+      rows_past_trivia (shape.trivia {content = content} h g) (passed k e) = rows_past_trivia g e
+      rows_past_trivia (shape.trivia {content = content} h g) (this_element p q) = absurd (no_element content p (trivia_over o content h))
+      rows_past_trivia (shape.trivia {content = content} h g) (later_element k e) = absurd (no_element content k (trivia_over o content h))
+
+      past_token_of : (c : ℕ) {y z : Top} {i : ℕ} {r u : OrderedTree} → ElementChanged y z i (token_then c r) u → (n : OrderedTree) × ElementChanged y z i r n
+      past_token_of c (passed {y = n} k e) = (n, e)
+      past_token_of c (this_element p q) = absurd (no_element (Content.token c) p refl)
+      past_token_of c (later_element k e) = absurd (no_element (Content.token c) k refl)
+
+  row_trails : (k : RowKind) (z : List ℕ) {row : OrderedTree} {q : List ℕ} {y : Top} {i : ℕ} → ValueShaped o (container_of k row).content (container_of k row).below q → IsTrue (row_is_full true false false row) → has_newline row ≡ true → ElementChanged y y i row row
+      → LastTrails k z row
+  row_trails of_values z shaped f l e = by shaped f l e
+    where
+      by : {row : OrderedTree} {q : List ℕ} {y : Top} {i : ℕ} → ValueShaped o Content.array (token_then 0x5B row) q → IsTrue (row_is_full true false false row) → has_newline row ≡ true → ElementChanged y y i row row → LastTrails of_values z row
+      by (shape.empty_array g) f l e = absurd (no_entry_closes g e)
+      by (shape.array g es) f l e = let m = past_trivia false false g f l in lift_trivia g (elements_trail z m.line false es m.full m.ends)
+  row_trails of_properties z shaped f l e = by shaped f l e
+    where
+      by : {row : OrderedTree} {q : List ℕ} {y : Top} {i : ℕ} → ValueShaped o Content.object (token_then 0x7B row) q → IsTrue (row_is_full true false false row) → has_newline row ≡ true → ElementChanged y y i row row → LastTrails of_properties z row
+      by (shape.empty_object g) f l e = absurd (no_entry_closes g e)
+      by (shape.object g ps) f l e = let m = past_trivia false false g f l in lift_trivia g (properties_trail z m.line false ps m.full m.ends)
+
+  inner_full : (k : RowKind) (row : OrderedTree) → IsTrue (is_full (container_of k row).content (container_of k row).below) → IsTrue (row_is_full true false false row)
+  inner_full of_values row f = f
+  inner_full of_properties row f = f
+
+  -- a container that has an entry, and in which a line ends
+  one_trails : {path : List ℕ} {i : ℕ} {u : OrderedTree} {r : List ℕ} → SoundTree o u → (x : Option Plain) → (f : FoundEntry o path i u r) → IsTrue (is_full (container_of f.kind f.row).content (container_of f.kind f.row).below) → HasLineEnd path (document_of o u x)
+      → (s : List ℕ) × HasTrailing path (document_of o u x) s
+  one_trails {path} {u = u} s x f full line =
+      let back : List ℕ = text_of_leaves (back_of f.holder) in
+      let here = (at_the_place o s f.holder).2 in
+      let reads = row_reads o back f.kind here in
+      let lines : has_newline f.row ≡ true =
+      elim (cases_Bool (has_newline f.row)) [
+        | inl e ↦ e
+        | inr e ↦ absurd (lacks_within o f.kind f.row s f.holder e x line)
+      ] in
+      let m = row_trails f.kind back here.shaped (inner_full f.kind f.row full) lines f.at in
+      let after = after_reads o (kind_of_row f.kind) back m.at reads.0 reads.1 in
+      let gaps = trailing_text o f.kind back (row_after m.at) m.off.rest after.1 m.off.to_comma m.off.to_bracket in
+      let e = entry_text o s f.kind m.at m.named f.holder in
+      let behind : text_of_leaves (row_back m.at) ++ back ≡ printed_text (row_after m.at) ++ back = ap (λ l. text_of_leaves l ++ back) (back_leaves m.at) in
+      (printed_text (row_after m.at) ++ back, (kind_of_row f.kind, m.i, e.0, gaps.0, gaps.1, subst (Entry (path ++ m.i ∷ []) o (printed_text u) e.0) behind e.1, gaps.2, gaps.3))
+
+  pub all_trailing : (path : List ℕ) {t u : OrderedTree} → SoundTree o u → (x : Option Plain) → NoneMissing path t u → HasAllTrailing path (document_of o u x)
+  all_trailing path {t} {u} sound x (at_path at full) p a r entry line =
+      let f = entry_found o sound (subst (λ q. Entry q o (printed_text u) a r) (sym (append_assoc path p (0 ∷ []))) entry) in
+      let inner = further_document (flip at.2) f.holder in
+      one_trails sound x f (value_full_at full inner.1) line
+  all_trailing path {t} {u} sound x (anywhere row e is full) p a r entry line =
+      let f = entry_found o sound (subst (λ q. Entry q o (printed_text u) a r) (sym (append_assoc path p (0 ∷ []))) entry) in
+      one_trails sound x f (root_full_at is f.holder full) line

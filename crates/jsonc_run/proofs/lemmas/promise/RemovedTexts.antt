@@ -1,5 +1,5 @@
 -- Where an entry leaves a sound tree, it leaves the text so.
-use Rattle.std.proofs.Common.{ℕ, ◌+◌, ◌≡◌, ◌∙◌, inl, inr, sym, ap, subst, refl, Bool, true, false, List, [], ◌∷◌, ◌++◌, Option, chars, arith, encode_utf8}
+use Rattle.std.proofs.Common.{ℕ, ◌+◌, ◌≡◌, ◌∙◌, sym, ap, subst, refl, Bool, true, false, List, [], ◌∷◌, ◌++◌, Option, chars, arith, encode_utf8}
 use Rattle.std.proofs.lemmas.List.{append_assoc, append-nil}
 use Rattle.jsonc_text.specs.Options.{Options}
 use Rattle.jsonc_text.specs.Plain.{Plain}
@@ -7,16 +7,13 @@ use Rattle.jsonc_tree.specs.Content.{Content, token}
 use Rattle.jsonc_tree.specs.OrderedTree.{OrderedTree, none, leaves, Top}
 use Rattle.jsonc_sound.specs.Shape as shape
 use Rattle.jsonc_sound.specs.Shape.{ValueShaped, token_then, printed_text}
-use Rattle.jsonc_sound.specs.Leaving.{AreInlineTrivia, IsRestOfLine, without_end, with_end, LeavesBehind, comma_alone, comma_and_line}
+use Rattle.jsonc_sound.specs.Leaving.{AreInlineTrivia, IsRestOfLine, LeavesBehind}
 use Rattle.jsonc_sound.specs.Rows.{RowKind, of_values, of_properties, container_of}
 use Rattle.jsonc_sound.specs.SoundTrees.{SoundTree}
 use Rattle.jsonc_sound.specs.TreeChanges.{IsElement, leaves_of, property_of, ElementChanged, DocumentChanged}
-use Rattle.jsonc_sound.proofs.Pieces.{Pieces}
 use Rattle.jsonc_sound.proofs.Texts.{AllUtf8}
 use Rattle.jsonc_run.specs.texts.Paths.{Entry}
-use Rattle.jsonc_run.specs.texts.Edits as texts
 use Rattle.jsonc_run.specs.texts.Stretches.{Parted}
-use Rattle.jsonc_run.specs.texts.Edits.{Trail}
 use Rattle.jsonc_run.specs.promise.PlaceLaws.{text_of_leaves}
 use Rattle.jsonc_run.proofs.lemmas.promise.Entries.{value_stands_in, property_stands_in}
 use Rattle.jsonc_run.proofs.lemmas.promise.Leaves.{row_back, back_of, text_joined, utf8_first, utf8_second, document_utf8}
@@ -25,7 +22,6 @@ use Rattle.jsonc_sound.specs.Documents.{document_of}
 use Rattle.jsonc_sound.proofs.ShapeValues.{comma_mark}
 use Rattle.jsonc_run.proofs.lemmas.promise.Stretches.{Begins, beside_begins, marks_in, parted, property_begins, value_begins}
 pub use Rattle.jsonc_run.proofs.lemmas.promise.Stretches.{pieces_first, pieces_second}
-use Rattle.jsonc_run.proofs.lemmas.promise.Trivia.{beside_text, trivia_text, end_text}
 use Rattle.jsonc_sound.proofs.FirstNodes.{none_changed}
 use Rattle.jsonc_run.proofs.lemmas.promise.Values.{top_same, array_place, object_place, past_trivia, past_token, node_leaves, at_the_place}
 
@@ -47,27 +43,8 @@ none_more n = omega arith
 
 -- what these print
 module _ (o : Options) where
-  comma_then : (rest : List Content) → AllUtf8 (token 0x2C ∷ rest) → text_of_leaves (token 0x2C ∷ rest) ≡ 0x2C ∷ text_of_leaves rest
+  pub comma_then : (rest : List Content) → AllUtf8 (token 0x2C ∷ rest) → text_of_leaves (token 0x2C ∷ rest) ≡ 0x2C ∷ text_of_leaves rest
   comma_then rest u = text_joined (token 0x2C ∷ []) rest (u.0, tt) ∙ ap (λ l. l ++ text_of_leaves rest) comma_text
-
-  rest_text : {line : List Content} → IsRestOfLine line → Pieces o line → AllUtf8 line → Trail false (text_of_leaves line)
-  rest_text (without_end line h) p u = subst (Trail false) (append-nil (text_of_leaves line)) (texts.rest_of_line (beside_text o line h p) (inl refl))
-  rest_text (with_end line end h n) p u =
-      subst (Trail false) (sym (text_joined line (end ∷ []) (utf8_first line (end ∷ []) u))) (texts.rest_of_line (beside_text o line h (pieces_first o line (end ∷ []) p)) (inr (end_text end n)))
-
-  pub trail_text : {b : Bool} {c m line : List Content} → Commas b c m line → Pieces o line → AllUtf8 line → Trail b (text_of_leaves line)
-  trail_text (behind_it (comma_alone between t)) p u =
-      subst (Trail true) (sym (text_joined between (token 0x2C ∷ []) (utf8_first between (token 0x2C ∷ []) u) ∙ ap (λ l. text_of_leaves between ++ l) comma_text)) (texts.up_to_comma (trivia_text o between t (pieces_first o between (token 0x2C ∷ []) p)))
-  trail_text (behind_it (comma_and_line between line end b h n)) p u =
-      let tail : List Content = line ++ end ∷ [] in
-      let later = utf8_second between (token 0x2C ∷ tail) u in
-      let text : text_of_leaves (between ++ (token 0x2C ∷ tail)) ≡ text_of_leaves between ++ (0x2C ∷ (text_of_leaves line ++ text_of_leaves (end ∷ []))) =
-      text_joined between (token 0x2C ∷ tail) (utf8_first between (token 0x2C ∷ tail) u)
-      ∙ ap (λ l. text_of_leaves between ++ l) (comma_then tail later ∙ ap (λ l. 0x2C ∷ l) (text_joined line (end ∷ []) (utf8_first line (end ∷ []) later.1))) in
-      let second = pieces_second o between (token 0x2C ∷ tail) p in
-      subst (Trail true) (sym text) (texts.and_line (beside_text o between b (pieces_first o between (token 0x2C ∷ tail) p)) (beside_text o line h (pieces_first o line (end ∷ []) second.1)) (end_text end n))
-  trail_text (ahead_of_it mid rl) p u = rest_text rl p u
-  trail_text (nowhere rl) p u = rest_text rl p u
 
   -- an element of an object is a property
   is_property : {x y : Top} {row : OrderedTree} {r : List ℕ} → ValueShaped o Content.object (token_then 0x7B row) r → {i : ℕ} {new : OrderedTree} → ElementChanged x y i row new → x.content ≡ Content.property

@@ -1,5 +1,5 @@
 -- Where an entry leaves a sound tree with spaces at the seams, it leaves the text so.
-use Rattle.std.proofs.Common.{ℕ, ◌+◌, ◌≡◌, ◌≢◌, ◌∙◌, sym, ap, subst, refl, inl, Bool, true, false, List, [], ◌∷◌, ◌++◌, Option, arith}
+use Rattle.std.proofs.Common.{ℕ, ◌+◌, ◌≡◌, ◌≢◌, ◌∙◌, sym, ap, subst, refl, inl, inr, Bool, true, false, List, [], ◌∷◌, ◌++◌, Option, arith}
 use Rattle.std.proofs.lemmas.List.{append_assoc, append-nil}
 use Rattle.std.proofs.lemmas.Str.{chars-nil}
 use Rattle.jsonc_text.specs.Options.{Options}
@@ -10,16 +10,17 @@ use Rattle.jsonc_tree.specs.OrderedTree.{OrderedTree, none, leaves, followed_by,
 use Rattle.jsonc_tree.specs.Values.{DocumentValueOf}
 use Rattle.jsonc_tree.proofs.OrderedTrees.{leaves-followed_by}
 use Rattle.jsonc_sound.specs.Shape.{token_then, printed_text}
-use Rattle.jsonc_sound.specs.Leaving.{AreInlineTrivia, IsRestOfLine, among, element_count, ClosesUp, stays, closes_up}
+use Rattle.jsonc_sound.specs.Leaving.{AreInlineTrivia, IsRestOfLine, LeavesBehind, among, element_count, ClosesUp, stays, closes_up}
 use Rattle.jsonc_sound.specs.MarkChanges.{AreBlanks}
 use Rattle.jsonc_sound.specs.Rows.{RowKind, opening, container_of}
 use Rattle.jsonc_sound.specs.SoundTrees.{SoundTree}
 use Rattle.jsonc_sound.specs.Adjacent.{last_printed}
+use Rattle.jsonc_sound.specs.Alone.{RowAlone}
 use Rattle.jsonc_sound.specs.Spaces.{first_printed, is_bare_leaf, space_then}
 use Rattle.jsonc_sound.specs.TreeChanges.{IsElement, leaves_of}
 use Rattle.jsonc_sound.specs.TriviaChanges.{leaves_then}
 use Rattle.jsonc_sound.proofs.NodesAlone.{document_alone}
-use Rattle.jsonc_sound.proofs.Pieces.{Pieces, document_pieces}
+use Rattle.jsonc_sound.proofs.Pieces.{LinesFlat, Pieces, document_flat, document_pieces}
 use Rattle.jsonc_sound.proofs.RowParts.{parted_at, at_comma, past_leaves, beside_trivia, rest_trivia, between_trivia, line_trivia}
 use Rattle.jsonc_sound.proofs.SeamStretches.{parted_row}
 use Rattle.jsonc_sound.proofs.Spaces.{first_append, last_append}
@@ -27,26 +28,32 @@ use Rattle.jsonc_sound.proofs.Texts.{AllUtf8}
 use Rattle.jsonc_sound.proofs.TriviaLeaves.{front_leaves}
 use Rattle.jsonc_edit.specs.Put.{a_space}
 use Rattle.jsonc_edit.proofs.Spacing.{spaces_value}
+use Rattle.jsonc_edit.proofs.lemmas.remove.Contents.{line_first}
 use Rattle.jsonc_edit.specs.remove.Laws.{EntryTaken}
-use Rattle.jsonc_edit.specs.SeamRemovals.{SpaceFirst, none_first, space_first, RemovedWithSeams, comma_behind, comma_before, no_comma}
+use Rattle.jsonc_edit.specs.SeamRemovals.{NoCommentLeft, NoLineLeft, SpaceFirst, none_first, space_first, RemovedWithSeams, comma_behind, comma_before, no_comma}
 use Rattle.jsonc_edit.specs.SeamPlaces.{DocumentHolds}
 use Rattle.jsonc_edit.specs.Seams.{PrintNothing, space_if}
 use Rattle.jsonc_run.specs.texts.Paths.{Entry}
-use Rattle.jsonc_run.specs.texts.Edits.{IsSeam, Comma, Leaves, Loses}
+use Rattle.jsonc_run.specs.texts.Edits.{IsSeam, Comma, EndsBeside, Leaves, Loses, Trail}
 use Rattle.jsonc_run.specs.promise.PlaceLaws.{text_of_leaves}
 use Rattle.jsonc_run.proofs.lemmas.promise.CommentTexts.{blanks_text}
-use Rattle.jsonc_run.proofs.lemmas.promise.Leaves.{back_of, document_parts, document_utf8, utf8_first, utf8_second}
+use Rattle.jsonc_run.proofs.lemmas.promise.Joined.{Good, good_as, good_first, good_second, good_tree}
+use Rattle.jsonc_run.proofs.lemmas.promise.LeafEnds.{flat_behind}
+use Rattle.jsonc_run.proofs.lemmas.promise.Leaves.{back_of, document_parts, document_utf8, text_joined, utf8_first, utf8_second}
+use Rattle.jsonc_run.proofs.lemmas.promise.NothingBehind.{row_comment, row_line, row_stops, stops}
+use Rattle.jsonc_run.proofs.lemmas.promise.NothingBeside.{Apart, apart_behind, nothing_beside, token_apart, with_token}
 use Rattle.jsonc_run.proofs.lemmas.promise.RemovedEntries.{loses_value}
 use Rattle.jsonc_run.proofs.lemmas.promise.StretchElements.{renumber, rest_as, Reached, at_first, past_comma, past_row}
 use Rattle.jsonc_run.proofs.lemmas.promise.StretchElements as reaching
 use Rattle.jsonc_run.proofs.lemmas.promise.CommasLeft.{Which, the_one_behind, one_before, none_there, comma_so}
-use Rattle.jsonc_run.proofs.lemmas.promise.RemovedTexts.{Commas, behind_it, ahead_of_it, nowhere, none_more, text_cons, trail_text, comma_unmarked, entry_begins, entry_there, gone_parted, rest_pieces, pieces_first, pieces_second}
+use Rattle.jsonc_run.proofs.lemmas.promise.RemovedTexts.{Commas, behind_it, ahead_of_it, nowhere, none_more, text_cons, comma_unmarked, entry_begins, entry_there, gone_parted, rest_pieces, pieces_first, pieces_second}
 use Rattle.jsonc_run.proofs.lemmas.promise.Stretches.{blanks_behind_unmarked, marks_in, marks_in_both, seam_unmarked}
 use Rattle.jsonc_sound.specs.Documents.{document_of}
+use Rattle.jsonc_run.proofs.lemmas.promise.Trails.{CommasLeft, NoneLeft, trail_text}
 use Rattle.jsonc_run.proofs.lemmas.promise.Trivia.{beside_text}
 use Rattle.jsonc_run.proofs.lemmas.promise.Closing.{blanks_first, blanks_second, split, row_some, container_row, no_elements, count_followed, blanks_count, left_blanks}
 use Rattle.jsonc_run.proofs.lemmas.promise.Values.{at_the_place}
-use Rattle.jsonc_sound.specs.Rows.{an_element, nothing_yet}
+use Rattle.jsonc_sound.specs.Rows.{Last, an_element, nothing_yet}
 use Rattle.jsonc_sound.proofs.WithoutValue.{among_leaves}
 use Rattle.jsonc_sound.proofs.SeamRows.{container_leaves}
 use Rattle.jsonc_edit.proofs.SeamsParting.{bare_first}
@@ -149,6 +156,16 @@ held_leaves kind {row = row} {front = front} {back = back} h =
 around_of : (kind : RowKind) {path : List ℕ} {t u row new : OrderedTree} {front back : List Content} → DocumentHolds (container_of kind row) path t front back → DocumentHolds (container_of kind new) path u front back → Around kind path t u row new front back
 around_of kind h k = record { itself = document_itself h; old = held_leaves kind h; now = held_leaves kind k }
 
+-- what does not stay in a row of a sound document
+module _ (o : Options) (kind : RowKind) where
+  line_left : {between : List Content} {last : Last} (line : List Content) (back : OrderedTree) → LeavesBehind between line → NoLineLeft between line back → RowAlone o kind last (leaves_then line back) → (z : List Content)
+      → AreInlineTrivia between → line ≡ [] → (line_first (leaves back ++ z) ≡ false) × (stops (leaves back ++ z) ≡ true)
+  line_left line back lb nl g z a b = let row = past_leaves o kind line (line_trivia lb) g in (row_line o row z ∙ nl a b, row_stops o row z)
+
+  none_left : {back : OrderedTree} {last : Last} (line : List Content) → NoCommentLeft line back → RowAlone o kind last back → (z : List Content) → NoneLeft line (leaves back ++ z)
+  none_left line (inl e) g z = inl e
+  none_left line (inr e) g z = inr (row_comment o g z ∙ e)
+
 -- what leaves of the row of a container, and that the entry is there
 record Gone (kind : RowKind) (top : Top) (i : ℕ) (row : OrderedTree) (t u : OrderedTree) (around : List Content) : Type 0 where
   stretches : Stretches t u (leaves_of top)
@@ -156,15 +173,17 @@ record Gone (kind : RowKind) (top : Top) (i : ℕ) (row : OrderedTree) (t u : Or
   back : stretches.back ≡ rest ++ around
   reached : (y : Top) → IsElement y.content → Reached top y i row (stretches.trail ++ rest)
   lead : AreInlineTrivia stretches.lead
+  apart : (o : Options) → RowAlone o kind nothing_yet row → Apart (stretches.front ++ (stretches.comma ++ stretches.mid))
   with_comma : Bool
   commas : Commas with_comma stretches.comma stretches.mid stretches.trail
+  left : (o : Options) → RowAlone o kind nothing_yet row → (z : List Content) → CommasLeft commas (rest ++ z)
   which : Which top row stretches.comma stretches.mid stretches.lead stretches.trail rest with_comma
 
 module _ {kind : RowKind} {top : Top} {path : List ℕ} {t u : OrderedTree} {f b : List Content} (element : IsElement top.content) where
   -- with no comma, or with the one behind it
-  gone_ahead : (front back given : OrderedTree) (before behind : List Content) (row : OrderedTree) (c : Bool) → Commas c [] [] behind → Which top row [] [] before behind (leaves back) c → AreInlineTrivia before → Around kind path t u row (followed_by front given) f b → SpaceFirst (leaves front) back given
+  gone_ahead : (front back given : OrderedTree) (before behind : List Content) (row : OrderedTree) (c : Bool) (commas : Commas c [] [] behind) → ((o : Options) → RowAlone o kind nothing_yet row → (z : List Content) → CommasLeft commas (leaves back ++ z)) → Which top row [] [] before behind (leaves back) c → AreInlineTrivia before → ((o : Options) → RowAlone o kind nothing_yet row → Apart (token (opening kind) ∷ leaves front)) → Around kind path t u row (followed_by front given) f b → SpaceFirst (leaves front) back given
       → leaves row ≡ leaves front ++ (before ++ (leaves_of top ++ (behind ++ leaves back))) → ((y : Top) → IsElement y.content → Reached top y (element_count front) row (behind ++ leaves back)) → Gone kind top (element_count front) row t u b
-  gone_ahead front back given before behind row c cm which h d space e reach =
+  gone_ahead front back given before behind row c cm left which h lone d space e reach =
       let o : Content = token (opening kind) in
       let seam = row_seam b space in
       record {
@@ -188,8 +207,10 @@ module _ {kind : RowKind} {top : Top} {path : List ℕ} {t u : OrderedTree} {f b
         back = refl;
         reached = reach;
         lead = h;
+        apart = λ o g. subst Apart (sym (append-nil (f ++ (token (opening kind) ∷ leaves front)))) (apart_behind f (token (opening kind) ∷ leaves front) (lone o g));
         with_comma = c;
         commas = cm;
+        left = left;
         which = which;
       }
     where
@@ -200,10 +221,10 @@ module _ {kind : RowKind} {top : Top} {path : List ℕ} {t u : OrderedTree} {f b
       regroup_new f fr bk b c = simp (append_assoc) refl
 
   -- with the one before it
-  gone_behind : (front mid back given_mid given : OrderedTree) (before line : List Content) (row : OrderedTree) → IsRestOfLine line → Which top row (token 0x2C ∷ []) (leaves mid) before line (leaves back) false → AreInlineTrivia before → Around kind path t u row (followed_by front (followed_by given_mid given)) f b
+  gone_behind : (front mid back given_mid given : OrderedTree) (before line : List Content) (row : OrderedTree) → IsRestOfLine line → ((o : Options) → RowAlone o kind nothing_yet row → (z : List Content) → NoneLeft line (leaves back ++ z)) → Which top row (token 0x2C ∷ []) (leaves mid) before line (leaves back) false → AreInlineTrivia before → ((o : Options) → RowAlone o kind nothing_yet row → Apart (token 0x2C ∷ leaves mid)) → Around kind path t u row (followed_by front (followed_by given_mid given)) f b
       → SpaceFirst (leaves front) mid given_mid → SpaceFirst (leaves front ++ leaves given_mid) back given
       → leaves row ≡ leaves front ++ (token 0x2C ∷ (leaves mid ++ (before ++ (leaves_of top ++ (line ++ leaves back))))) → ((y : Top) → IsElement y.content → Reached top y (element_count front + element_count mid) row (line ++ leaves back)) → Gone kind top (element_count front + element_count mid) row t u b
-  gone_behind front mid back given_mid given before line row rl which h d space_mid space e reach =
+  gone_behind front mid back given_mid given before line row rl left which h lone d space_mid space e reach =
       let o : Content = token (opening kind) in
       let seam_mid = alone_seam space_mid in
       let seam = row_seam b space in
@@ -229,8 +250,10 @@ module _ {kind : RowKind} {top : Top} {path : List ℕ} {t u : OrderedTree} {f b
         back = refl;
         reached = reach;
         lead = h;
+        apart = λ o g. apart_behind (f ++ (token (opening kind) ∷ leaves front)) (token 0x2C ∷ leaves mid) (lone o g);
         with_comma = false;
         commas = ahead_of_it (leaves mid) rl;
+        left = left;
         which = which;
       }
     where
@@ -241,25 +264,27 @@ module _ {kind : RowKind} {top : Top} {path : List ℕ} {t u : OrderedTree} {f b
       regroup_new f fr md bk b c = simp (append_assoc) refl
 
   gone_of : {i : ℕ} {row left : OrderedTree} → RemovedWithSeams top i row left → Around kind path t u row left f b → Gone kind top i row t u b
-  gone_of (comma_behind front back given before between line be lb space) d =
+  gone_of (comma_behind front back given before between line ends be lb nl space) d =
       let comma : Content = token 0x2C in
       let trivia = beside_trivia before be in
       let tail : OrderedTree = token_then 0x2C (leaves_then line back) in
       let behind : leaves (leaves_then between tail) ≡ (between ++ (comma ∷ line)) ++ leaves back =
       front_leaves between tail (between_trivia lb) ∙ ap (λ l. between ++ (comma ∷ l)) (front_leaves line back (line_trivia lb)) ∙ sym (append_assoc between (comma ∷ line) (leaves back)) in
-      gone_ahead front back given before (between ++ (comma ∷ line)) _ true (behind_it lb) (the_one_behind front (leaves_then line back) before between refl element trivia (between_trivia lb) behind) be d space
+      gone_ahead front back given before (between ++ (comma ∷ line)) _ true (behind_it lb) (λ o g z. line_left o kind line back lb nl (at_comma o kind (parted_at o kind front before top between tail trivia (between_trivia lb) element g).behind).1 z) (the_one_behind front (leaves_then line back) before between refl element trivia (between_trivia lb) behind) be (λ o g. token_apart o (opening kind) front (parted_at o kind front before top between tail trivia (between_trivia lb) element g).before (with_token (opening kind) front ends)) d space
       (leaves-followed_by front (among before top between tail) ∙ ap (λ l. leaves front ++ l) (among_leaves before top between tail trivia (between_trivia lb) ∙ ap (λ l. before ++ (leaves_of top ++ l)) (sym (front_leaves between tail (between_trivia lb)) ∙ behind)))
       (λ y q. renumber (none_more (element_count front)) (past_row front (reaching.past_leaves before trivia (rest_as behind (at_first (leaves_then between tail) element q)))))
-  gone_of (comma_before front mid back given_mid given before line be rl free not_come space_mid space) d =
+  gone_of (comma_before front mid back given_mid given before line ends be rl cl free not_come space_mid space) d =
       let trivia = beside_trivia before be in
       let inner : OrderedTree = among before top line back in
-      gone_behind front mid back given_mid given before line _ rl (one_before front mid back before line refl element trivia (rest_trivia line rl) free not_come) be d space_mid space
+      gone_behind front mid back given_mid given before line _ rl (λ o g z. none_left o kind line cl (parted_at o kind mid before top line back trivia (rest_trivia line rl) element (at_comma o kind (parted_row o kind front g).2).1).behind z) (one_before front mid back before line refl element trivia (rest_trivia line rl) free not_come) be
+      (λ o g. token_apart o 0x2C mid (parted_at o kind mid before top line back trivia (rest_trivia line rl) element (at_comma o kind (parted_row o kind front g).2).1).before ends) d space_mid space
       (leaves-followed_by front (token_then 0x2C (followed_by mid inner)) ∙ ap (λ l. leaves front ++ (token 0x2C ∷ l)) (leaves-followed_by mid inner ∙ ap (λ l. leaves mid ++ l) (among_leaves before top line back trivia (rest_trivia line rl))))
       (λ y q. renumber (ap (λ n. element_count front + n) (none_more (element_count mid))) (past_row front (past_comma 0x2C (past_row mid (reaching.past_leaves before trivia (rest_as (front_leaves line back (rest_trivia line rl)) (at_first (leaves_then line back) element q)))))))
-  gone_of (no_comma front back given before line be rl free not_come space) d =
+  gone_of (no_comma front back given before line ends be rl cl free not_come space) d =
       let trivia = beside_trivia before be in
       let inner : OrderedTree = among before top line back in
-      gone_ahead front back given before line _ false (nowhere rl) (none_there front back before line refl element trivia (rest_trivia line rl) free not_come) be d space
+      gone_ahead front back given before line _ false (nowhere rl) (λ o g z. none_left o kind line cl (parted_at o kind front before top line back trivia (rest_trivia line rl) element g).behind z) (none_there front back before line refl element trivia (rest_trivia line rl) free not_come) be
+      (λ o g. token_apart o (opening kind) front (parted_at o kind front before top line back trivia (rest_trivia line rl) element g).before (with_token (opening kind) front ends)) d space
       (leaves-followed_by front inner ∙ ap (λ l. leaves front ++ l) (among_leaves before top line back trivia (rest_trivia line rl)))
       (λ y q. renumber (none_more (element_count front)) (past_row front (reaching.past_leaves before trivia (rest_as (front_leaves line back (rest_trivia line rl)) (at_first (leaves_then line back) element q)))))
 
@@ -291,7 +316,11 @@ module _ (o : Options) {t u : OrderedTree} (s : SoundTree o t) (r : SoundTree o 
       let u5 = utf8_second own behind_own u4 in
       let p3 = pieces_second o k.mid behind_mid (pieces_second o k.comma behind_comma (pieces_second o k.front behind_front pieces)) in
       let p5 = pieces_second o own behind_own (pieces_second o k.lead behind_lead p3) in
-      let trail = trail_text o g.commas (pieces_first o k.trail k.back p5) (utf8_first k.trail k.back u5) in
+      let good_back : Good o k.back = good_second o ((((k.front ++ k.comma) ++ k.mid) ++ k.lead) ++ (own ++ k.trail)) k.back (good_as o (k.before ∙ regrouped k.front k.comma k.mid k.lead own k.trail k.back) (good_tree o s)) in
+      let flat_back : LinesFlat k.back = flat_behind ((((k.front ++ k.comma) ++ k.mid) ++ k.lead) ++ (own ++ k.trail)) k.back (subst LinesFlat (k.before ∙ regrouped k.front k.comma k.mid k.lead own k.trail k.back) (document_flat o (document_alone o s.shaped) s.lines)) in
+      let row_alone = container_row o kind (at_the_place o s d.itself.changed).2.shaped in
+      let trail : Trail (text_of_leaves k.back) g.with_comma (text_of_leaves k.trail) =
+      trail_text o k.back flat_back good_back g.commas (subst (CommasLeft g.commas) (sym g.back) (g.left o row_alone b)) (pieces_first o k.trail k.back p5) (utf8_first k.trail k.back u5) in
       let behind = rest_pieces o k.trail g.rest b k.back g.back u5 in
       let entry = subst (λ z. Entry (path ++ i ∷ []) o (printed_text t) (text_of_leaves own ++ z) z) behind (entry_in kind d.itself g.reached) in
       let comma = comma_so o s kind d.itself i g.which k.back (sym g.back) in
@@ -328,6 +357,11 @@ module _ (o : Options) {t u : OrderedTree} (s : SoundTree o t) (r : SoundTree o 
       let ahead : List Content = k.front ++ (k.comma ++ k.mid) in
       let parts : leaves t ≡ ahead ++ behind_mid = k.before ∙ ap (λ l. k.front ++ l) (sym (append_assoc k.comma k.mid behind_mid)) ∙ sym (append_assoc k.front (k.comma ++ k.mid) behind_mid) in
       let parted = gone_parted o s w ahead k.lead own k.trail [] k.back [] parts g.lead (entry_begins o kind s d.itself.changed g.reached behind_own) chars-nil in
+      let ahead_text : text_of_leaves ahead ≡ text_of_leaves k.front ++ (text_of_leaves k.comma ++ text_of_leaves k.mid) =
+      text_cons k.front (k.comma ++ k.mid) (utf8_first ahead behind_mid (subst AllUtf8 parts (document_utf8 o s.shaped))) (text_joined k.comma k.mid (utf8_first k.comma behind_comma u1)) in
+      let alone_ahead : EndsBeside (text_of_leaves k.front ++ (text_of_leaves k.comma ++ text_of_leaves k.mid)) → ⊥ = λ e.
+      nothing_beside o ahead (good_first o ahead behind_mid (good_as o parts (good_tree o s))) (spelled_first ahead behind_mid (subst AllSpelled parts (spelled o s)))
+      (g.apart o row_alone) (subst EndsBeside (sym ahead_text) e) in
       let mid_marks : marks_in (k.comma ++ k.mid) ≡ marks_in k.mid = marks_in_both k.comma k.mid ∙ ap (λ l. l ++ marks_in k.mid) (comma_unmarked g.commas) in
       let marks : marks_in (leaves u) ≡ marks_in ahead ++ marks_in k.back =
       ap marks_in k.after ∙ marks_in_both k.front (k.mid_now ++ k.back_now) ∙ ap (λ l. marks_in k.front ++ l) (marks_in_both k.mid_now k.back_now ∙ ap (λ l. l ++ marks_in k.back_now) (seam_marks k.at_comma) ∙ ap (λ l. marks_in k.mid ++ l) (seam_marks k.at_entry))
@@ -348,6 +382,7 @@ module _ (o : Options) {t u : OrderedTree} (s : SoundTree o t) (r : SoundTree o 
         new,
         entry,
         beside_text o k.lead g.lead (pieces_first o k.lead behind_lead p3),
+        alone_ahead,
         trail,
         comma,
         many.Many.stop,
@@ -360,6 +395,9 @@ module _ (o : Options) {t u : OrderedTree} (s : SoundTree o t) (r : SoundTree o 
         parted,
         marks,
       )
+    where
+      regrouped : (a c e g i j k : List Content) → a ++ (c ++ (e ++ (g ++ (i ++ (j ++ k))))) ≡ ((((a ++ c) ++ e) ++ g) ++ (i ++ j)) ++ k
+      regrouped a c e g i j k = simp (append_assoc) refl
 
 -- what is left of blanks and a bracket without a space is blanks and that bracket
 record Unspaced (xs : List Content) (c : Content) : Type 0 where
@@ -398,10 +436,10 @@ no_text {o} {path} {text} {lead} {entry} {rest} {b} c = subst (λ l. Comma path 
 module _ (o : Options) (kind : RowKind) {top : Top} {path : List ℕ} {t u : OrderedTree} {f ar : List Content} (s : SoundTree o t) (r : SoundTree o u) (w x : Option Plain) where
   -- the entry leaves, and with it all blanks that are left
   close_up : {i : ℕ} {row : OrderedTree} (c : ℕ) (d : Around kind path t u row (token_then c none) f ar)
-      → (fr lead trail bk : List Content) (b : Bool) → Commas b [] [] trail → Which top row [] [] lead trail bk b → AreInlineTrivia lead → Unspaced (fr ++ bk) (token c) → bk ≢ []
+      → (fr lead trail bk : List Content) (b : Bool) (commas : Commas b [] [] trail) → CommasLeft commas (bk ++ ar) → Which top row [] [] lead trail bk b → AreInlineTrivia lead → Apart (token (opening kind) ∷ fr) → Unspaced (fr ++ bk) (token c) → bk ≢ []
       → leaves row ≡ fr ++ (lead ++ (leaves_of top ++ (trail ++ bk))) → ((y : Top) → IsElement y.content → Reached top y i row (trail ++ bk))
       → Leaves (path ++ i ∷ []) (document_of o t w) (document_of o u x)
-  close_up {i} {row} c d fr lead trail bk b commas which beside un some e reach =
+  close_up {i} {row} c d fr lead trail bk b commas left which beside lone un some e reach =
       let k = split fr bk un.blanks (token c) some un.is in
       let open_leaf : Content = token (opening kind) in
       let own : List Content = leaves_of top in
@@ -436,7 +474,19 @@ module _ (o : Options) (kind : RowKind) {top : Top} {path : List ℕ} {t u : Ord
       let comma = comma_so o s kind d.itself i which behind_trail (sym tail) in
       let back_text : text_of_leaves behind_trail ≡ text_of_leaves k.rest ++ text_of_leaves back = text_cons k.rest back u5 refl in
       let blank = subst AreBlanks k.before un.are in
+      let before_trail : List Content = (front ++ fr) ++ (lead ++ own) in
+      let whole : leaves t ≡ (before_trail ++ trail) ++ behind_trail = old ∙ regrouped front fr lead own trail behind_trail in
+      let good_back : Good o behind_trail = good_second o (before_trail ++ trail) behind_trail (good_as o whole (good_tree o s)) in
+      let flat_back : LinesFlat behind_trail = flat_behind (before_trail ++ trail) behind_trail (subst LinesFlat whole (document_flat o (document_alone o s.shaped) s.lines)) in
+      let trail_of : Trail (text_of_leaves behind_trail) b (text_of_leaves trail) =
+      trail_text o behind_trail flat_back good_back commas (subst (CommasLeft commas) (sym tail) left) (pieces_first o trail behind_trail p4) (utf8_first trail behind_trail u4) in
       let parted = gone_parted o s w (front ++ fr) lead own trail k.rest back (text_of_leaves k.rest) (old ∙ sym (append_assoc front fr behind_fr)) beside (entry_begins o kind s d.itself.changed reach behind_own) refl in
+      let ahead : List Content = front ++ fr in
+      let parts : leaves t ≡ ahead ++ behind_fr = old ∙ sym (append_assoc front fr behind_fr) in
+      let ahead_text : text_of_leaves ahead ≡ text_of_leaves front ++ (text_of_leaves fr ++ []) = text_joined front fr (utf8_first front (fr ++ behind_fr) u0) ∙ ap (λ l. text_of_leaves front ++ l) (sym (append-nil (text_of_leaves fr))) in
+      let last : Apart ahead = subst Apart (sym (append_assoc f (open_leaf ∷ []) fr)) (apart_behind f (open_leaf ∷ fr) lone) in
+      let alone_ahead : EndsBeside (text_of_leaves front ++ (text_of_leaves fr ++ [])) → ⊥ = λ e.
+      nothing_beside o ahead (good_first o ahead behind_fr (good_as o parts (good_tree o s))) (spelled_first ahead behind_fr (subst AllSpelled parts (spelled o s))) last (subst EndsBeside (sym ahead_text) e) in
       let marks : marks_in (leaves u) ≡ marks_in (front ++ fr) ++ marks_in back =
       ap marks_in new ∙ marks_in_both front back ∙ ap (λ l. l ++ marks_in back) (sym (blanks_behind_unmarked front fr (blanks_first fr k.rest blank))) in (
         text_of_leaves front,
@@ -455,7 +505,8 @@ module _ (o : Options) (kind : RowKind) {top : Top} {path : List ℕ} {t u : Ord
         edited,
         entry,
         beside_text o lead beside (pieces_first o lead behind_lead p2),
-        trail_text o commas (pieces_first o trail behind_trail p4) (utf8_first trail behind_trail u4),
+        alone_ahead,
+        subst (λ x. Trail x b (text_of_leaves trail)) back_text trail_of,
         no_text (subst (λ z. Comma (path ++ i ∷ []) o (printed_text t) (text_of_leaves lead) (text_of_leaves own ++ (text_of_leaves trail ++ z)) (text_of_leaves trail ++ z) b (text_of_leaves []) (text_of_leaves [])) back_text comma),
         blanks_text o fr (blanks_first fr k.rest blank) (pieces_first o fr behind_fr p1),
         blanks_text o k.rest (blanks_second fr k.rest blank) (pieces_first o k.rest back p5),
@@ -471,12 +522,15 @@ module _ (o : Options) (kind : RowKind) {top : Top} {path : List ℕ} {t u : Ord
       regroup_old : (f fr ld ow tr rs ar : List Content) (a z : Content) → f ++ ((a ∷ (fr ++ (ld ++ (ow ++ (tr ++ (rs ++ z ∷ [])))))) ++ ar) ≡ (f ++ a ∷ []) ++ (fr ++ (ld ++ (ow ++ (tr ++ (rs ++ (z ∷ ar))))))
       regroup_old f fr ld ow tr rs ar a z = simp (append_assoc) refl
 
+      regrouped : (a c e g i j : List Content) → a ++ (c ++ (e ++ (g ++ (i ++ j)))) ≡ (((a ++ c) ++ (e ++ g)) ++ i) ++ j
+      regrouped a c e g i j = simp (append_assoc) refl
+
       regroup_new : (f ar : List Content) (a z : Content) → f ++ ((a ∷ z ∷ []) ++ ar) ≡ (f ++ a ∷ []) ++ (z ∷ ar)
       regroup_new f ar a z = simp (append_assoc) refl
 
   closes_so : {i : ℕ} {row left : OrderedTree} (element : IsElement top.content) → RemovedWithSeams top i row left → (blanks : List Content) (c : ℕ) → AreBlanks blanks → left ≡ leaves_then blanks (token_then c none)
       → (d : Around kind path t u row (token_then c none) f ar) → Leaves (path ++ i ∷ []) (document_of o t w) (document_of o u x)
-  closes_so element (comma_behind front back given before between line be lb space) blanks c h e d =
+  closes_so element (comma_behind front back given before between line ends be lb nl space) blanks c h e d =
       let comma : Content = token 0x2C in
       let trivia = beside_trivia before be in
       let tail : OrderedTree = token_then 0x2C (leaves_then line back) in
@@ -485,10 +539,10 @@ module _ (o : Options) (kind : RowKind) {top : Top} {path : List ℕ} {t u : Ord
       let alone_row = container_row o kind (at_the_place o s d.itself.changed).2.shaped in
       let parts = parted_at o kind front before top between tail trivia (between_trivia lb) element alone_row in
       let some = row_some o (past_leaves o kind line (line_trivia lb) (at_comma o kind parts.behind).1) in
-      close_up c d (leaves front) before (between ++ (comma ∷ line)) (leaves back) true (behind_it lb) (the_one_behind front (leaves_then line back) before between refl element trivia (between_trivia lb) behind) be (left_unspaced front back given blanks c h space e) some
+      close_up c d (leaves front) before (between ++ (comma ∷ line)) (leaves back) true (behind_it lb) (line_left o kind line back lb nl (at_comma o kind parts.behind).1 ar) (the_one_behind front (leaves_then line back) before between refl element trivia (between_trivia lb) behind) be (token_apart o (opening kind) front parts.before (with_token (opening kind) front ends)) (left_unspaced front back given blanks c h space e) some
       (leaves-followed_by front (among before top between tail) ∙ ap (λ l. leaves front ++ l) (among_leaves before top between tail trivia (between_trivia lb) ∙ ap (λ l. before ++ (leaves_of top ++ l)) (sym (front_leaves between tail (between_trivia lb)) ∙ behind)))
       (λ y q. renumber (none_more (element_count front)) (past_row front (reaching.past_leaves before trivia (rest_as behind (at_first (leaves_then between tail) element q)))))
-  closes_so element (comma_before front mid back given_mid given before line be rl free not_come space_mid space) blanks c h e d =
+  closes_so element (comma_before front mid back given_mid given before line ends be rl cl free not_come space_mid space) blanks c h e d =
       let alone_row = container_row o kind (at_the_place o s d.itself.changed).2.shaped in
       let parts = parted_row o kind front alone_row in
       let stood = (at_comma o kind parts.2).0 in
@@ -496,12 +550,12 @@ module _ (o : Options) (kind : RowKind) {top : Top} {path : List ℕ} {t u : Ord
       let none_stood = no_elements o parts.1 (omega (arith, count)) in
       let wrong : an_element ≡ nothing_yet = sym stood ∙ none_stood in
       cc
-  closes_so element (no_comma front back given before line be rl free not_come space) blanks c h e d =
+  closes_so element (no_comma front back given before line ends be rl cl free not_come space) blanks c h e d =
       let trivia = beside_trivia before be in
       let inner : OrderedTree = among before top line back in
       let alone_row = container_row o kind (at_the_place o s d.itself.changed).2.shaped in
       let parts = parted_at o kind front before top line back trivia (rest_trivia line rl) element alone_row in
-      close_up c d (leaves front) before line (leaves back) false (nowhere rl) (none_there front back before line refl element trivia (rest_trivia line rl) free not_come) be (left_unspaced front back given blanks c h space e) (row_some o parts.behind)
+      close_up c d (leaves front) before line (leaves back) false (nowhere rl) (none_left o kind line cl parts.behind ar) (none_there front back before line refl element trivia (rest_trivia line rl) free not_come) be (token_apart o (opening kind) front parts.before (with_token (opening kind) front ends)) (left_unspaced front back given blanks c h space e) (row_some o parts.behind)
       (leaves-followed_by front inner ∙ ap (λ l. leaves front ++ l) (among_leaves before top line back trivia (rest_trivia line rl)))
       (λ y q. renumber (none_more (element_count front)) (past_row front (reaching.past_leaves before trivia (rest_as (front_leaves line back (rest_trivia line rl)) (at_first (leaves_then line back) element q)))))
 

@@ -1,5 +1,5 @@
 -- Where the value of a document leaves it.
-use Rattle.std.proofs.Common.{ℕ, ◌≡◌, ◌∙◌, sym, ap, subst, refl, inl, true, false, List, [], ◌∷◌, ◌++◌, Option}
+use Rattle.std.proofs.Common.{ℕ, ◌≡◌, ◌∙◌, ◌⊎◌, sym, ap, subst, refl, inl, inr, Bool, true, false, List, [], ◌∷◌, ◌++◌, Option}
 use Rattle.std.proofs.lemmas.List.{append_assoc, append-nil}
 use Rattle.jsonc_text.specs.Options.{Options}
 use Rattle.jsonc_text.specs.Plain.{Plain}
@@ -8,6 +8,8 @@ use Rattle.jsonc_tree.specs.OrderedTree.{OrderedTree, none, more, leaves, follow
 use Rattle.jsonc_tree.proofs.OrderedTrees.{leaves-followed_by}
 use Rattle.jsonc_sound.specs.Shape as shape
 use Rattle.jsonc_sound.specs.Shape.{DocumentShaped, printed_text}
+use Rattle.jsonc_sound.specs.Alone as alone
+use Rattle.jsonc_sound.specs.Alone.{RootAlone}
 use Rattle.jsonc_sound.specs.EntryLaws.{root_with}
 use Rattle.jsonc_sound.specs.Leaving.{AreInlineTrivia, IsRestOfLine, among, ValueRemoved, value_leaves, Empties, stays, empties}
 use Rattle.jsonc_sound.specs.MarkChanges.{AreBlanks}
@@ -17,7 +19,8 @@ use Rattle.jsonc_sound.specs.TreeChanges.{IsElement, leaves_of, ElementChanged, 
 use Rattle.jsonc_sound.proofs.NodesAlone.{document_alone}
 use Rattle.jsonc_sound.proofs.Entries.{blanks_trivia}
 use Rattle.jsonc_sound.proofs.FirstNodes.{none_changed, no_element, value_element}
-use Rattle.jsonc_sound.proofs.Pieces.{Pieces, document_pieces}
+use Rattle.jsonc_sound.proofs.Pieces.{LinesFlat, Pieces, document_flat, document_pieces}
+use Rattle.jsonc_sound.proofs.RootRows.{root_alone}
 use Rattle.jsonc_sound.proofs.RowParts.{beside_trivia, rest_trivia}
 use Rattle.jsonc_sound.proofs.Texts.{AllUtf8}
 use Rattle.jsonc_sound.proofs.TriviaLeaves.{front_leaves}
@@ -30,17 +33,25 @@ use Rattle.jsonc_sound.proofs.LooseLines.{trivia_gap, value_stops}
 use Rattle.std.proofs.lemmas.Str.{chars-nil}
 use Rattle.jsonc_run.specs.texts.Edits as texts
 use Rattle.jsonc_run.specs.texts.Entering.{NoCommaComes}
-use Rattle.jsonc_run.specs.texts.Edits.{Leaves}
+use Rattle.jsonc_edit.specs.SeamRemovals.{NoCommentLeft}
+use Rattle.jsonc_edit.specs.remove.Laws.{StaysNone}
+use Rattle.jsonc_run.specs.texts.Edits.{EndsBeside, Leaves, Trail}
 use Rattle.jsonc_run.specs.promise.PlaceLaws.{text_of_leaves}
 use Rattle.jsonc_run.proofs.lemmas.promise.CommentTexts.{blanks_text}
 use Rattle.jsonc_run.proofs.lemmas.promise.Closing.{blanks_first, blanks_second}
-use Rattle.jsonc_run.proofs.lemmas.promise.Leaves.{row_back, utf8_second, utf8_first, document_utf8}
+use Rattle.jsonc_run.proofs.lemmas.promise.Bare.{AllSpelled, spelled, spelled_first}
+use Rattle.jsonc_run.proofs.lemmas.promise.Joined.{good_as, good_first, good_second, good_tree}
+use Rattle.jsonc_run.proofs.lemmas.promise.LeafEnds.{flat_behind}
+use Rattle.jsonc_run.proofs.lemmas.promise.NothingBehind.{root_comment}
+use Rattle.jsonc_run.proofs.lemmas.promise.Leaves.{row_back, text_joined, utf8_second, utf8_first, document_utf8}
+use Rattle.jsonc_run.proofs.lemmas.promise.NothingBeside.{Apart, none_beside, root_apart}
 use Rattle.jsonc_run.proofs.lemmas.promise.StretchElements.{Reached, rest_as, at_first, past_leaves, past_row}
 use Rattle.jsonc_run.proofs.lemmas.promise.RemovedTexts as removing
-use Rattle.jsonc_run.proofs.lemmas.promise.RemovedTexts.{text_cons, trail_text, gone_parted, pieces_first, pieces_second}
+use Rattle.jsonc_run.proofs.lemmas.promise.RemovedTexts.{text_cons, gone_parted, pieces_first, pieces_second}
 use Rattle.jsonc_run.proofs.lemmas.promise.Stretches.{blanks_behind_unmarked, marks_in, marks_in_both, value_begins}
 use Rattle.jsonc_sound.specs.Documents.{document_of}
 use Rattle.jsonc_sound.proofs.WithoutValue.{among_leaves}
+use Rattle.jsonc_run.proofs.lemmas.promise.Trails.{NoneLeft, trail_text}
 use Rattle.jsonc_run.proofs.lemmas.promise.Trivia.{beside_text}
 use Rattle.jsonc_run.proofs.lemmas.promise.Values.{past_trivia, at_the_place}
 
@@ -78,12 +89,27 @@ module _ (o : Options) where
   nothing_more : (r : List ℕ) → [] ≡ 0x2C ∷ r → ⊥
   nothing_more r e = cc
 
+  -- no comment stays behind it
+  past_front : {stood : Bool} (front rest : OrderedTree) → RootAlone o stood (followed_by front rest) → (b : Bool) × RootAlone o b rest
+  past_front {stood} none rest g = (stood, g)
+  past_front (more c below after) rest (alone.root_trivia h g) = past_front after rest g
+  past_front (more c below after) rest (alone.root_value v g) = past_front after rest g
+
+  past_row_leaves : {stood : Bool} (ls : List Content) (rest : OrderedTree) → RootAlone o stood (leaves_then ls rest) → (b : Bool) × RootAlone o b rest
+  past_row_leaves {stood} [] rest g = (stood, g)
+  past_row_leaves (c ∷ ls) rest (alone.root_trivia h g) = past_row_leaves ls rest g
+  past_row_leaves (c ∷ ls) rest (alone.root_value v g) = past_row_leaves ls rest g
+
+  root_left : {b : Bool} (line : List Content) {back : OrderedTree} → NoCommentLeft line back → RootAlone o b back → NoneLeft line (leaves back)
+  root_left line (inl e) g = inl e
+  root_left line (inr e) g = inr (root_comment o g ∙ e)
+
   -- it leaves, and with it what is said of both ends
   value_gone : {top : Top} {row new : OrderedTree} (s : SoundTree o (root_with row)) (r : SoundTree o (root_with new)) (w x : Option Plain) → (pre mid : List Content) (lead line more_of_it back : List Content)
-      → leaves row ≡ pre ++ (mid ++ (lead ++ (leaves_of top ++ (line ++ (more_of_it ++ back))))) → leaves new ≡ pre ++ back → AreBlanks mid → AreBlanks more_of_it → AreInlineTrivia lead → IsRestOfLine line
+      → leaves row ≡ pre ++ (mid ++ (lead ++ (leaves_of top ++ (line ++ (more_of_it ++ back))))) → leaves new ≡ pre ++ back → AreBlanks mid → AreBlanks more_of_it → AreInlineTrivia lead → IsRestOfLine line → (pre ++ mid ≡ []) ⊎ Apart (pre ++ mid) → NoneLeft line (more_of_it ++ back)
       → Reached top (record { content = Content.null; below = none }) 0 row (line ++ (more_of_it ++ back))
       → Leaves [] (document_of o (root_with row) w) (document_of o (root_with new) x)
-  value_gone {top} {row} {new} s r w x pre mid lead line tail back e f are are_too beside rest reach =
+  value_gone {top} {row} {new} s r w x pre mid lead line tail back e f are are_too beside rest lone left reach =
       let t : OrderedTree = root_with row in
       let u : OrderedTree = root_with new in
       let own : List Content = leaves_of top in
@@ -116,9 +142,20 @@ module _ (o : Options) where
       let entry = subst (λ z. Entry [] o (printed_text t) (text_of_leaves own ++ z) z) behind stood in
       let last = subst (λ x. Gap o x []) behind (subst (λ l. Gap o (text_of_leaves l) []) reach.same (behind_value s.shaped (root_lines row s.lines) reach.changed)) in
       let not_behind : NoCommaComes o (text_of_leaves line ++ (text_of_leaves tail ++ text_of_leaves back)) = λ r g. nothing_more r (gap_unique last g refl refl) in
-      let ahead = subst (λ z. Gap o (printed_text t) (text_of_leaves own ++ z)) behind (subst (λ l. Gap o (printed_text t) (text_of_leaves own ++ text_of_leaves l)) reach.same (gap_to (at_the_place o s d).1)) in
+      let gap_there = subst (λ z. Gap o (printed_text t) (text_of_leaves own ++ z)) behind (subst (λ l. Gap o (printed_text t) (text_of_leaves own ++ text_of_leaves l)) reach.same (gap_to (at_the_place o s d).1)) in
       let begins = value_begins o (line ++ (tail ++ back)) (at_the_place o s d).2.shaped in
       let parted = gone_parted o s w (pre ++ mid) lead own line tail back (text_of_leaves tail) (old ∙ sym (append_assoc pre mid (lead ++ (own ++ (line ++ (tail ++ back)))))) beside begins refl in
+      let before_rest : List Content = (pre ++ mid) ++ ((lead ++ own) ++ line) in
+      let whole : leaves t ≡ before_rest ++ (tail ++ back) = old ∙ regrouped pre mid lead own line (tail ++ back) in
+      let flat : LinesFlat (tail ++ back) = flat_behind before_rest (tail ++ back) (subst LinesFlat whole (document_flat o (document_alone o s.shaped) s.lines)) in
+      let trail_of : Trail (text_of_leaves (tail ++ back)) false (text_of_leaves line) =
+      trail_text o (tail ++ back) flat (good_second o before_rest (tail ++ back) (good_as o whole (good_tree o s))) (removing.nowhere rest) left (pieces_first o line (tail ++ back) p4) (utf8_first line (tail ++ back) u4) in
+      let ahead : List Content = pre ++ mid in
+      let behind_ahead : List Content = lead ++ (own ++ (line ++ (tail ++ back))) in
+      let parts : leaves t ≡ ahead ++ behind_ahead = old ∙ sym (append_assoc pre mid behind_ahead) in
+      let ahead_text : text_of_leaves ahead ≡ text_of_leaves pre ++ (text_of_leaves mid ++ []) = text_joined pre mid (utf8_first pre (mid ++ behind_ahead) u0) ∙ ap (λ l. text_of_leaves pre ++ l) (sym (append-nil (text_of_leaves mid))) in
+      let alone_ahead : EndsBeside (text_of_leaves pre ++ (text_of_leaves mid ++ [])) → ⊥ = λ e.
+      none_beside o ahead (good_first o ahead behind_ahead (good_as o parts (good_tree o s))) (spelled_first ahead behind_ahead (subst AllSpelled parts (spelled o s))) lone (subst EndsBeside (sym ahead_text) e) in
       let marks : marks_in (leaves u) ≡ marks_in (pre ++ mid) ++ marks_in back = ap marks_in edited ∙ marks_in_both pre back ∙ ap (λ l. l ++ marks_in back) (sym (blanks_behind_unmarked pre mid are)) in (
         text_of_leaves pre,
         text_of_leaves mid,
@@ -136,8 +173,9 @@ module _ (o : Options) where
         after,
         entry,
         beside_text o lead beside (pieces_first o lead (own ++ (line ++ (tail ++ back))) p2),
-        trail_text o (removing.nowhere rest) (pieces_first o line (tail ++ back) p4) (utf8_first line (tail ++ back) u4),
-        texts.none not_behind texts.the_text (texts.gap ahead),
+        alone_ahead,
+        subst (λ x. Trail x false (text_of_leaves line)) (text_cons tail back u5 refl) trail_of,
+        texts.none not_behind texts.the_text (texts.gap gap_there),
         blanks_text o mid are (pieces_first o mid (lead ++ (own ++ (line ++ (tail ++ back)))) p1),
         blanks_text o tail are_too (pieces_first o tail back p5),
         inl refl,
@@ -148,16 +186,29 @@ module _ (o : Options) where
         parted,
         marks,
       )
+    where
+      regrouped : (a c e g i j : List Content) → a ++ (c ++ (e ++ (g ++ (i ++ j)))) ≡ ((a ++ c) ++ ((e ++ g) ++ i)) ++ j
+      regrouped a c e g i j = simp (append_assoc) refl
 
-  pub root_gone : {top : Top} {row left new : OrderedTree} (s : SoundTree o (root_with row)) (r : SoundTree o (root_with new)) (w x : Option Plain) → IsElement top.content → ValueRemoved top row left → Empties left new
+  pub root_gone : {top : Top} {row left new : OrderedTree} (s : SoundTree o (root_with row)) (r : SoundTree o (root_with new)) (w x : Option Plain) → IsElement top.content → (leaving : ValueRemoved top row left) → StaysNone leaving → Empties left new
       → Leaves [] (document_of o (root_with row) w) (document_of o (root_with new) x)
-  root_gone {top} {row} {left} {new} s r w x element (value_leaves front back before line a b rl) em = by refl em r
+  root_gone {top} {row} {left} {new} s r w x element (value_leaves front back before line a b rl) none_stays em = by refl em r
     where
       trivia : AreTrivia before
       trivia = beside_trivia before b
 
       parts : leaves row ≡ leaves front ++ (before ++ (leaves_of top ++ (line ++ leaves back)))
       parts = leaves-followed_by front (among before top line back) ∙ ap (λ l. leaves front ++ l) (among_leaves before top line back trivia (rest_trivia line rl))
+
+      lone : (leaves front ≡ []) ⊎ Apart (leaves front)
+      lone = root_apart o front (among before top line back) (root_alone o row s) a
+
+      behind : NoneLeft line (leaves back)
+      behind =
+          let inner : OrderedTree = more top.content top.below (leaves_then line back) in
+          let first = past_front front (leaves_then before inner) (root_alone o row s) in
+          let own = past_front (more top.content top.below none) (leaves_then line back) (past_row_leaves before inner first.1).1 in
+          root_left line none_stays (past_row_leaves line back own.1).1
 
       reached : Reached top (record { content = Content.null; below = none }) 0 row (line ++ leaves back)
       reached =
@@ -166,10 +217,10 @@ module _ (o : Options) where
           subst (λ n. Reached top (record { content = Content.null; below = none }) n row (line ++ leaves back)) first far
 
       by : {l n : OrderedTree} → l ≡ followed_by front back → Empties l n → (r : SoundTree o (root_with n)) → Leaves [] (document_of o (root_with row) w) (document_of o (root_with n) x)
-      by e stays r = value_gone s r w x (leaves front) [] before line [] (leaves back) parts (ap leaves e ∙ leaves-followed_by front back) tt tt b rl reached
+      by e stays r = value_gone s r w x (leaves front) [] before line [] (leaves back) parts (ap leaves e ∙ leaves-followed_by front back) tt tt b rl (subst (λ l. (l ≡ []) ⊎ Apart l) (sym (append-nil (leaves front))) lone) behind reached
       by e (empties blanks are) r =
           let all : leaves front ++ leaves back ≡ blanks = sym (leaves-followed_by front back) ∙ sym (ap leaves e) ∙ front_leaves blanks none (blanks_trivia blanks are) ∙ append-nil blanks in
           let both = subst AreBlanks (sym all) are in
           value_gone s r w x [] (leaves front) before line (leaves back) []
-          (parts ∙ ap (λ l. leaves front ++ (before ++ (leaves_of top ++ (line ++ l)))) (sym (append-nil (leaves back)))) refl (blanks_first (leaves front) (leaves back) both) (blanks_second (leaves front) (leaves back) both) b rl
+          (parts ∙ ap (λ l. leaves front ++ (before ++ (leaves_of top ++ (line ++ l)))) (sym (append-nil (leaves back)))) refl (blanks_first (leaves front) (leaves back) both) (blanks_second (leaves front) (leaves back) both) b rl lone (subst (NoneLeft line) (sym (append-nil (leaves back))) behind)
           (rest_as (ap (λ l. line ++ l) (sym (append-nil (leaves back)))) reached)

@@ -43,13 +43,13 @@ module _ (o : Options) where
   entry_begins an_array t r (v, h) = value_begins o h
   entry_begins an_object t r (n, v, h) = property_begins h
 
-  separates_once : {t u r s : List ℕ} → t ≡ u → Separates o t r → Separates o u s → IsTrue (starts begins_item (next r)) → IsTrue (starts begins_item (next s)) → r ≡ s
+  pub separates_once : {t u r s : List ℕ} → t ≡ u → Separates o t r → Separates o u s → IsTrue (starts begins_item (next r)) → IsTrue (starts begins_item (next s)) → r ≡ s
   separates_once {r = r} {s = s} e (comma g h) (comma k l) a b = gap_after (tails (gap_after e g k refl refl)) h l (not_gap r a) (not_gap s b)
   separates_once {s = s} e (comma g h) (no_comma x k) a b = absurd (no_item_at refl (gap_after e g k refl (not_gap s b)) b)
   separates_once {r = r} e (no_comma x k) (comma g h) a b = absurd (no_item_at refl (sym (gap_after e k g (not_gap r a) refl)) a)
   separates_once {r = r} {s = s} e (no_comma x g) (no_comma y k) a b = gap_after e g k (not_gap r a) (not_gap s b)
 
-  at_begins : (kind : Kind) {i : ℕ} {t u r : List ℕ} → EntryAt o kind i t u r → IsTrue (starts begins_item (next t))
+  pub at_begins : (kind : Kind) {i : ℕ} {t u r : List ℕ} → EntryAt o kind i t u r → IsTrue (starts begins_item (next t))
   at_begins kind {t = t} {r = r} (this_entry h) = entry_begins kind t r h
   at_begins kind {t = t} (later_entry {x = x} h s k) = entry_begins kind t x h
 
@@ -59,12 +59,23 @@ module _ (o : Options) where
       let p = separates_once (entry_ends kind t x y h l) a b (at_begins kind k) (at_begins kind m) in
       at_once kind k (subst (λ y. EntryAt o kind i y w s) (sym p) m)
 
-  has_once : (kind : Kind) {i : ℕ} {t u r w s : List ℕ} → HasEntry o kind i t u r → HasEntry o kind i t w s → u ≡ w
+  ends_once : (kind : Kind) {i : ℕ} {t u r w s : List ℕ} → EntryAt o kind i t u r → EntryAt o kind i t w s → r ≡ s
+  ends_once kind {t = t} {r = r} {s = s} (this_entry h) (this_entry k) = entry_ends kind t r s h k
+  ends_once kind {t = t} {w = w} {s = s} (later_entry {i = i} {x = x} h a k) (later_entry {x = y} l b m) =
+      let p = separates_once (entry_ends kind t x y h l) a b (at_begins kind k) (at_begins kind m) in
+      ends_once kind k (subst (λ y. EntryAt o kind i y w s) (sym p) m)
+
+  pub has_ends : (kind : Kind) {i : ℕ} {t u r w s : List ℕ} → HasEntry o kind i t u r → HasEntry o kind i t w s → r ≡ s
+  has_ends kind {i} {w = w} {s = s} (x, y, e, g, h) (a, b, f, k, l) =
+      let p = gap_after (tails (sym e ∙ f)) g k (not_gap y (at_begins kind h)) (not_gap b (at_begins kind l)) in
+      ends_once kind h (subst (λ z. EntryAt o kind i z w s) (sym p) l)
+
+  pub has_once : (kind : Kind) {i : ℕ} {t u r w s : List ℕ} → HasEntry o kind i t u r → HasEntry o kind i t w s → u ≡ w
   has_once kind {i} {w = w} {s = s} (x, y, e, g, h) (a, b, f, k, l) =
       let p = gap_after (tails (sym e ∙ f)) g k (not_gap y (at_begins kind h)) (not_gap b (at_begins kind l)) in
       at_once kind h (subst (λ z. EntryAt o kind i z w s) (sym p) l)
 
-  leads_once : (kind : Kind) (t a u w : List ℕ) → t ≡ a → LeadsTo o kind t u → LeadsTo o kind a w → IsTrue (starts begins_item (next u)) → IsTrue (starts begins_item (next w)) → u ≡ w
+  pub leads_once : (kind : Kind) (t a u w : List ℕ) → t ≡ a → LeadsTo o kind t u → LeadsTo o kind a w → IsTrue (starts begins_item (next u)) → IsTrue (starts begins_item (next w)) → u ≡ w
   leads_once an_array t c u w e f g a b = f ∙ e ∙ sym g
   leads_once an_object t c u w e (n, x, y, h, g, k) (m, x2, y2, h2, g2, k2) a b =
       gap_after (tails (gap_after (name_ends h (subst (λ z. IsName o z m x2) (sym e) h2)) g g2 refl refl)) k k2 (not_gap u a) (not_gap w b)
@@ -73,7 +84,7 @@ module _ (o : Options) where
   bracket_begins an_array e = subst (λ y. IsTrue (starts begins_item (next y))) (sym e) refl
   bracket_begins an_object e = subst (λ y. IsTrue (starts begins_item (next y))) (sym e) refl
 
-  value_at_begins : {path t u r : List ℕ} → ValueAt o path t u r → IsTrue (starts begins_item (next t))
+  pub value_at_begins : {path t u r : List ℕ} → ValueAt o path t u r → IsTrue (starts begins_item (next t))
   value_at_begins (itself v) = value_begins o v
   value_at_begins (inside kind h l k) = bracket_begins kind h.2
 

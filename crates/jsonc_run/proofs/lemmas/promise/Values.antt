@@ -135,7 +135,7 @@ module _ (o : Options) where
       )
 
   -- the value of a property is last in it
-  property_place : {x y : Top} (z : List ℕ) {held : OrderedTree} {given : OrderedTree} (g : ElementChanged x y 1 held given) → PropertyHere held z
+  pub property_place : {x y : Top} (z : List ℕ) {held : OrderedTree} {given : OrderedTree} (g : ElementChanged x y 1 held given) → PropertyHere held z
       → (row_back g ≡ []) × ValueHere x z × LeadsTo o an_object (printed_text held ++ z) (node_chars x ++ z)
   property_place {x} {y} z g p = by p.shaped p.lines p.carries g
     where

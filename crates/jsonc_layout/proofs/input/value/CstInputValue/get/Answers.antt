@@ -13,16 +13,16 @@ pub returns-in-Some : goal.returns-in-Some
 returns-in-Some g c =
     let name = c.args.name.now in
     sym (ap (value_named name) c.in-Object.is
-        ∙ in_object name c.in-Object.properties
-        ∙ ap (λ l. option_map (λ p. p.1) (find (is_named name) l)) (sym c.as_slice.ensures.value)
-        ∙ ap (option_map (λ p. p.1)) (sym c.property_named.ensures)
-        ∙ ap (λ r. option_map (λ p. p.1) (option_copied r)) c.in-Some.is)
+    ∙ in_object name c.in-Object.properties
+    ∙ ap (λ l. option_map (λ p. p.1) (find (is_named name) l)) (sym c.as_slice.ensures.value)
+    ∙ ap (option_map (λ p. p.1)) (sym c.property_named.ensures)
+    ∙ ap (λ r. option_map (λ p. p.1) (option_copied r)) c.in-Some.is)
 
 pub returns-in-None : goal.returns-in-None
 returns-in-None g c =
     let name = c.args.name.now in
     sym (ap (value_named name) c.in-Object.is
-        ∙ in_object name c.in-Object.properties
-        ∙ ap (λ l. option_map (λ p. p.1) (find (is_named name) l)) (sym c.as_slice.ensures.value)
-        ∙ ap (option_map (λ p. p.1)) (sym c.property_named.ensures)
-        ∙ ap (λ r. option_map (λ p. p.1) (option_copied r)) c.in-None.is)
+    ∙ in_object name c.in-Object.properties
+    ∙ ap (λ l. option_map (λ p. p.1) (find (is_named name) l)) (sym c.as_slice.ensures.value)
+    ∙ ap (option_map (λ p. p.1)) (sym c.property_named.ensures)
+    ∙ ap (λ r. option_map (λ p. p.1) (option_copied r)) c.in-None.is)
