@@ -8,7 +8,7 @@ use Rattle.jsonc_tree.specs.Content.{Content}
 use Rattle.jsonc_tree.specs.Order.{with_parent}
 use Rattle.jsonc_tree.specs.Tree.{Node, content_at, children_at, place_at, IsTree, IsOver}
 use Rattle.jsonc_tree.specs.OrderedTree.{OrderedTree, none, more, Shows, shows_none, shows_more, ordered_tree}
-use Rattle.jsonc_sound.specs.Shape.{IsTrivia, Trivia, nothing, trivia, Separated, comma, no_comma, Closed, plain, trailing_comma, token_then, printed_text, ValueShaped, ElementsShaped, PropertiesShaped, DocumentShaped}
+use Rattle.jsonc_sound.specs.Shape.{IsTrivia, Trivia, nothing, trivia, Separated, comma, no_comma, Closed, plain, trailing_comma, token_then, ValueShaped, ElementsShaped, PropertiesShaped, DocumentShaped}
 use Rattle.jsonc_layout.specs.nodes.Kinds.{is_element_at, is_trivia, is_comma}
 use Rattle.jsonc_layout.specs.nodes.Siblings.{siblings_after}
 use Rattle.jsonc_sound.specs.TreeChanges.{IsElement}

@@ -1,13 +1,16 @@
 -- Between which leaves a node stands, where one row of the tree changes, and where a space comes.
-use Rattle.std.proofs.Common.{◌≡◌, ◌≢◌, ℕ, ◌+◌, ◌<◌, ◌&&◌, Bool, true, false, cond, List, [], ◌∷◌, ◌++◌, length, take, drop, slice_index, Option, Some, None, inl, inr, refl, sym, ap, subst, ◌∙◌, arith, length-take, length-drop, get_or-take, get_or-drop}
+use Rattle.std.proofs.Common.{◌≡◌, ◌≢◌, ℕ, ◌+◌, ◌<◌, ◌&&◌, Bool, true, false, cond, List, [], ◌∷◌, ◌++◌, All, length, take, drop, slice_index, Option, Some, None, inl, inr, refl, sym, ap, subst, ◌∙◌, arith, length-take, length-drop, get_or-take, get_or-drop}
 use Rattle.std.proofs.lemmas.Bool.{cases_Bool}
 use Rattle.std.proofs.lemmas.List.{append_assoc, append-nil, drop-drop, length-take-le, take-append-drop, take-append-le, take-take, take_at}
+use Rattle.std.proofs.lemmas.List.Elements.{All-drop, All-take}
+use Rattle.jsonc_tree.specs.Building.{Keeps}
 use Rattle.jsonc_tree.specs.Order.{with_parent}
 use Rattle.jsonc_text.specs.Text.{starts}
 use Rattle.jsonc_tree.specs.Content.{Content, is_container}
 use Rattle.jsonc_tree.specs.OrderedTree.{OrderedTree, none, more, own_leaf, leaves, followed_by, Shows, shows_none, shows_more}
 use Rattle.jsonc_tree.specs.Tree.{Node, content_at, parent_at, children_at, place_at, IsTree, IsOver}
-use Rattle.jsonc_tree.proofs.Order.{not_over_parent}
+use Rattle.jsonc_tree.proofs.Builder.{Shows-keeps}
+use Rattle.jsonc_tree.proofs.Order.{not_over_parent, parent_there}
 use Rattle.jsonc_tree.proofs.Over.{over_up, sibling_not_over}
 use Rattle.jsonc_tree.proofs.OrderedTrees.{leaves-followed_by}
 use Rattle.jsonc_tree.proofs.Rows.{Shows-append, Shows-part}
@@ -19,6 +22,8 @@ use Rattle.jsonc_edit.specs.Put.{a_space, StandsBefore, AreSpaced}
 use Rattle.jsonc_edit.proofs.InsertedSpaces.{place_within, space_bare, contents_kept, parent_kept, container_row, placed_ahead}
 use Rattle.jsonc_edit.proofs.UnneededSpaces.{Nearest, Held, ahead_on, past_one, up_to, regrouped, either_seen, holder_seen, nearest_to, n_placed, behind_n}
 use Rattle.jsonc_edit.proofs.ChangesUpward.{ChangedIn, apart_kept}
+use Rattle.jsonc_edit.proofs.NodesKept.{place_kept}
+use Rattle.jsonc_layout.proofs.lemmas.nodes.InTree.{children_there}
 use Rattle.jsonc_edit.specs.Seams.{PrintNothing, space_if, StandsBetween, as_root, as_child, SeamsAround, SpacesStandAround, SpaceStandsBetween, is_space_needed_between}
 use Rattle.jsonc_edit.proofs.Lists.{either_off}
 use Rattle.jsonc_edit.proofs.Elements.{Some_same, none_some}
@@ -94,6 +99,22 @@ module _ (old new : List Node) (c : ℕ) (k : ChangedIn old new c) (after : IsTr
       let ne : p ≢ c = λ e. not_over_parent old k.tree n p said (subst (IsOver old n) (sym e) over) in
       let w : Within old n p (g ++ leaves front) (leaves back ++ d) = within_as old n p p refl up fr bk in
       child_between n p (g ++ leaves front) (leaves back ++ d) g d said ne (λ e h other also. sibling_not_over old k.tree n p e c said over h other also) w (between_above p g d up (over_up old n p c said over))
+
+-- where more nodes are there, each that was there stands between the same leaves
+module _ (old new : List Node) (tree : IsTree old) (keeps : Keeps (length old) old new) where
+  part_kept : (c n : ℕ) → parent_at old n ≡ Some c → (part : ℕ → List ℕ → List ℕ) (t : OrderedTree) → All (λ m. m < length old) (part (place_at old n) (children_at old c)) → Shows old (part (place_at old n) (children_at old c)) t → Shows new (part (place_at new n) (children_at new c)) t
+  part_kept c n said part t all shown =
+      let kids : List ℕ = children_at old c in
+      let place : ℕ = place_at old n in
+      subst (λ (l : List ℕ). Shows new (part (place_at new n) l) t) (sym (keeps.children c (parent_there old tree n c said).1))
+      (subst (λ j. Shows new (part j kids) t) (sym (place_kept old new tree keeps n c said)) (Shows-keeps old new tree keeps (part place kids) t (λ k h. all k 0 h) shown))
+
+  pub stands_kept : (n : ℕ) (f b : List Content) → StandsBetween old n f b → StandsBetween new n f b
+  stands_kept _ _ _ as_root = as_root
+  stands_kept n _ _ (as_child {c = c} {f = g} {b = d} {front = front} {back = back} said up fr bk) =
+      let all : All (λ m. m < length old) (children_at old c) = children_there old tree c in
+      as_child (keeps.parent n (parent_there old tree n c said).0 ∙ said) (stands_kept c g d up) (part_kept c n said take front (All-take (λ m. m < length old) (place_at old n) (children_at old c) all) fr)
+      (part_kept c n said (λ j. drop (j + 1)) back (All-drop (λ m. m < length old) (place_at old n + 1) (children_at old c) all) bk)
 
 -- nodes of which none prints something have leaves that print nothing
 starts_none : (x : Option ℕ) → starts (λ c. true) x ≡ false → x ≡ None

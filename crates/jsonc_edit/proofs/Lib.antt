@@ -10,6 +10,7 @@ pub mod Entries
 pub mod ShapedProperties
 pub mod ShapedPlaces
 pub mod NodesKept
+pub mod PutRows
 pub mod ReplacedChildren
 pub mod WrittenRows
 pub mod WrittenLines

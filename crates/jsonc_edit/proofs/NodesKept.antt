@@ -84,6 +84,11 @@ module _ (old new : List Node) (tree : IsTree old) (keeps : Keeps (length old) o
       ∙ ap (λ l. place_among n l) (keeps.children c there.1)
       ∙ ap (place_under old n) (sym said)
 
+-- what is over a node stays over it
+pub over_keeps : {q : ℕ} (old ready : List Node) → IsTree old → Keeps (length old) old ready → (k : ℕ) → k < length old → IsOver old q k → IsOver ready q k
+over_keeps old ready tree keeps _ there IsOver.itself = IsOver.itself
+over_keeps old ready tree keeps k there (IsOver.above {c = p} said rest) = IsOver.above (keeps.parent k there ∙ said) (over_keeps old ready tree keeps p (parent_there old tree k p said).1 rest)
+
 -- what was built is a node with the row below it
 pub built_top : {a b : List Node} {n : ℕ} {content : Content} {below : OrderedTree} → Builds a b n content below → top_at b n ≡ record { content = content; below = below }
 built_top {a} {b} {n} {content} {below} built =

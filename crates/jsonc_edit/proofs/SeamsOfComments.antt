@@ -20,11 +20,11 @@ use Rattle.jsonc_sound.proofs.ReplacedStretches.{blanks_unmarked, marks_join}
 use Rattle.jsonc_sound.specs.TreeChanges.{leaves_of}
 use Rattle.jsonc_edit.specs.Changes.{row_below, top_at}
 use Rattle.jsonc_edit.specs.Comments.{comment_at, removed_from, space_needed_without, CommentRemoved, CommentTaken}
-use Rattle.jsonc_edit.proofs.NodesKept.{tree_stays}
+use Rattle.jsonc_edit.proofs.NodesKept.{over_keeps, tree_stays}
 use Rattle.jsonc_edit.proofs.Removal.{from_before, blanks_gone}
 use Rattle.jsonc_edit.proofs.Splices.{spliced_in}
 use Rattle.jsonc_edit.proofs.Elements.{Some_same}
-use Rattle.jsonc_edit.proofs.TakingOut.{over_keeps, parents_spaced, removed}
+use Rattle.jsonc_edit.proofs.TakingOut.{parents_spaced, removed}
 use Rattle.jsonc_edit.specs.Due.{begins_bare, ends_bare, listed, prints_within, seen_before, seen_behind}
 use Rattle.jsonc_edit.specs.Put.{AreSpaced}
 use Rattle.jsonc_layout.specs.nodes.Kinds.{is_comment}

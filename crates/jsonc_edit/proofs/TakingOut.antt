@@ -27,7 +27,7 @@ use Rattle.jsonc_edit.proofs.CommentOrder.{making_keeps_comments}
 use Rattle.jsonc_edit.proofs.Numbered.{leaves_apart, number_ahead}
 use Rattle.jsonc_edit.proofs.Elements.{Some_same}
 use Rattle.jsonc_edit.proofs.SpacesNeededKept.{due_between_same}
-use Rattle.jsonc_edit.proofs.NodesKept.{tree_stays, place_kept}
+use Rattle.jsonc_edit.proofs.NodesKept.{over_keeps, tree_stays, place_kept}
 use Rattle.jsonc_edit.proofs.SpacedNodes.{IsChild, between_children, between_placed}
 use Rattle.jsonc_edit.proofs.Removal.{from_before, takes_trivia, gone_blanks, gone_text, are_gone_blanks, blanks_and_comment, sound_without}
 use Rattle.jsonc_edit.proofs.Spacing.{Spaced, all_spaced, parent_stays, spaces_sound, spaces_value}
@@ -113,11 +113,6 @@ module _ (old ready : List Node) (tree : IsTree old) (prepared : Extends old rea
             spaces = subst (λ xs. AreSpaced ready xs spaced) (due_is ∙ ap listed (sym due_ready)) put;
             removed = removed;
           })
-
--- a node of the document stays one
-pub over_keeps : (old ready : List Node) → IsTree old → Keeps (length old) old ready → (k : ℕ) → k < length old → IsOver old 0 k → IsOver ready 0 k
-over_keeps old ready tree keeps _ there IsOver.itself = IsOver.itself
-over_keeps old ready tree keeps k there (IsOver.above {c = p} said rest) = IsOver.above (keeps.parent k there ∙ said) (over_keeps old ready tree keeps p (parent_there old tree k p said).1 rest)
 
 -- what is due, or nothing meets
 module _ (ready spaced : List Node) (tree : IsTree ready) (n from other : ℕ) where

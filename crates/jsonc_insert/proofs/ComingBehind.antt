@@ -6,7 +6,6 @@ use Rattle.std.proofs.lemmas.List.Edits.{between_none}
 use Rattle.std.proofs.lemmas.Option.{slice_get-get_or}
 use Rattle.jsonc_tree.specs.Changes.{CanJoin, Splices}
 use Rattle.jsonc_tree.specs.Content.{Content, is_container, token}
-use Rattle.jsonc_tree.specs.Siblings.{before, first}
 use Rattle.jsonc_tree.specs.Tree.{Node, children_at, content_at, is_container_at, is_in, parent_at, place_at, IsTree}
 use Rattle.jsonc_tree.proofs.Appending.{not_over_bare}
 use Rattle.jsonc_tree.proofs.Gaps.{at_named, at_placed}

@@ -452,7 +452,7 @@ module _ (o : Options) (old new : List Node) (tree : IsTree old) (after : IsTree
       record { before = Some m.w; op = m.op; asks = (m.v, m.stands, m.asks); is = m.is }
   edit_made (set_boolean path b) h k (n, at, set) = boolean_set path n b at set
   edit_made (ensure_multiline path) h k (n, at, made) =
-      let g = spread_at o old new path n tree after s at.0 at.1 made in
+      let g = spread_at o old new path n tree s at.0 at.1 made in
       let w = keeps_document o t u path s g in
       record { before = w.value; op = texts.ensure_multiline path; asks = refl; is = record { after = w.value; old_text = w.old_text; new_text = w.new_text; changed = by_lines; sound = w.sound; marked = w.marks; made = g } }
   edit_made (insert_element path i v) h k (n, at, (m, put)) =

@@ -1,46 +1,40 @@
 -- The elements of an array or object at a path of a sound document come in another order.
-use Rattle.std.proofs.Common.{◌≡◌, ◌∙◌, ℕ, ◌-◌, ◌<◌, Bool, true, false, not, ◌&&◌, inl, inr, List, [], ◌∷◌, ◌++◌, All, length, map, take, drop, IsTrue, refl, sym, ap, subst, arith}
+use Rattle.std.proofs.Common.{◌≡◌, ◌∙◌, ℕ, ◌<◌, Bool, true, false, not, ◌&&◌, inl, inr, List, [], ◌∷◌, ◌++◌, length, map, IsTrue, refl, sym, ap, subst}
 use Rattle.std.specs.Prelude.{zip, IsPermutation}
 use Rattle.std.specs.List.{range_with_len}
 use Rattle.std.proofs.lemmas.Bool.{cases_Bool}
-use Rattle.std.proofs.lemmas.List.Elements.{All-from_get_or, All-head, All-tail}
 use Rattle.jsonc_text.specs.Options.{Options}
 use Rattle.jsonc_tree.specs.Content.{Content, is_container, newline, token}
-use Rattle.jsonc_tree.specs.OrderedTree.{OrderedTree, Top, none, more, ordered_tree, Shows, shows_none, shows_more}
+use Rattle.jsonc_tree.specs.OrderedTree.{OrderedTree, Top, none, more, followed_by, ordered_tree}
 use Rattle.jsonc_tree.specs.Tree.{Node, content_at, children_at, IsTree, IsOver}
 use Rattle.jsonc_tree.specs.declared.node.CstNewlineKind.{CstNewlineKind}
-use Rattle.jsonc_tree.proofs.OrderedTrees.{Shows-unique}
 use Rattle.jsonc_layout.specs.lines.Breadth.{newline_kind_at}
 use Rattle.jsonc_layout.specs.lines.Kinds.{is_array_or_object}
 use Rattle.jsonc_sound.specs.Lines.{is_line_comment}
 use Rattle.jsonc_sound.specs.Shape.{token_then}
-use Rattle.jsonc_sound.specs.Rows.{holder, opening, closing}
+use Rattle.jsonc_sound.specs.Rows.{RowKind, closing, container_of}
 use Rattle.jsonc_sound.specs.SoundTrees.{SoundTree}
 use Rattle.jsonc_sound.specs.TreeChanges.{DocumentChanged}
-use Rattle.jsonc_edit.specs.Changes.{row_below, top_at, Respliced}
+use Rattle.jsonc_edit.specs.Changes.{row_below, top_at}
 use Rattle.jsonc_edit.specs.Paths.{IsAt}
 use Rattle.jsonc_edit.proofs.FittingNodes.{over_there}
-use Rattle.jsonc_edit.proofs.NodesKept.{at_kept, top_stays, tree_stays}
-use Rattle.jsonc_edit.proofs.Splices.{respliced_over, respliced_row}
-use Rattle.jsonc_edit.proofs.ChangesUpward.{ChangedIn, Shows-row_below, changed_over}
 use Rattle.jsonc_edit.specs.remove.Removed.{has_brackets}
-use Rattle.jsonc_edit.proofs.lemmas.remove.Containers.{held_at, Brackets, brackets}
+use Rattle.jsonc_edit.specs.multiline.Laws.{bracketed}
 use Rattle.jsonc_edit.specs.multiline.Lines.{between}
 use Rattle.jsonc_edit.specs.multiline.Multiline.{TakesRow}
 use Rattle.jsonc_edit.specs.multiline.Slots as multiline
-use Rattle.jsonc_edit.proofs.lemmas.multiline.Documents.{filled_shown, token_first, token_shown, between_is, last_is}
+use Rattle.jsonc_edit.proofs.Standing.{standing}
+use Rattle.jsonc_edit.proofs.lemmas.multiline.BracketedRows.{bracketed_row, in_row, inner_there, row_stays, row_taken, BracketedRow}
+use Rattle.jsonc_edit.proofs.lemmas.multiline.FilledRows.{AllFit}
 use Rattle.jsonc_edit.proofs.lemmas.multiline.LineEnds.{has_its_brackets}
-use Rattle.jsonc_edit.proofs.lemmas.multiline.OnLines.{AllFit}
 use Rattle.jsonc_edit.proofs.Uniqueness.{over_at}
-use Rattle.jsonc_edit.proofs.lemmas.commas.Steps.{same_top}
-use Rattle.jsonc_edit.proofs.lemmas.commas.Holders.{Held}
 use Rattle.jsonc_sort.specs.Slots.{Slot, stays, comes, all_stay, row_in, row_then}
 use Rattle.jsonc_sort.specs.Parts.{has_comma}
 use Rattle.jsonc_sort.specs.Sorting.{Entry, Headers, ends_with_comma, entries, entry_at, goes_on, is_unchanged, lines_ended, placed, placed_one, rearranged, row_end, slot_content, sorted, tail_with, travelling, without_comma}
-use Rattle.jsonc_sort.specs.Laws.{IsOrderOf, Sort, closed, container_after, container_before, slots_of}
+use Rattle.jsonc_sort.specs.Laws.{IsOrderOf, Sort, container_after, container_before, slots_of}
 use Rattle.jsonc_sort.specs.Paths.{SortedAt, SortsAt}
 use Rattle.jsonc_sort.specs.Rearranged.{IsOrderIn, Rearranged, row_sorted}
-use Rattle.jsonc_sort.proofs.Choices.{Each, choose, each_joined}
+use Rattle.jsonc_sort.proofs.Choices.{Each, all_each, choose, each_joined}
 use Rattle.jsonc_sort.proofs.Documents.{row_joined}
 use Rattle.jsonc_sort.proofs.Lines as lines
 use Rattle.jsonc_sort.proofs.Lines.{rearranged_held}
@@ -107,25 +101,10 @@ rows_same old [] = refl
 rows_same old (stays n ∷ slots) = ap (more (content_at old n) (row_below old n)) (rows_same old slots)
 rows_same old (comes content ∷ slots) = ap (more content none) (rows_same old slots)
 
--- nodes stand for their rows
-shows_all : (ns : List Node) → IsTree ns → (xs : List ℕ) → All (λ n. n < length ns) xs → Shows ns xs (row_in (top_at ns) (all_stay xs))
-shows_all ns tree [] all = shows_none
-shows_all ns tree (n ∷ xs) all = shows_more (Shows-row_below ns tree n (All-head (λ m. m < length ns) n xs all)) (shows_all ns tree xs (All-tail (λ m. m < length ns) n xs all))
-
-last_then : (ns : List Node) → IsTree ns → (xs : List ℕ) (y k : ℕ) → content_at ns y ≡ token k → row_in (top_at ns) (all_stay (xs ++ y ∷ [])) ≡ row_then (top_at ns) (all_stay xs) (token_then k none)
-last_then ns tree [] y k e = token_first ns tree y k none e
-last_then ns tree (n ∷ xs) y k e = ap (more (content_at ns n) (row_below ns n)) (last_then ns tree xs y k e)
-
-all_front : (P : ℕ → Type 0) (xs ys : List ℕ) → All P (xs ++ ys) → Each P xs
-all_front P [] ys all = tt
-all_front P (x ∷ xs) ys all = (All-head P x (xs ++ ys) all, all_front P xs ys (All-tail P x (xs ++ ys) all))
-
-all_last : (P : ℕ → Type 0) (xs : List ℕ) (y : ℕ) → All P (xs ++ y ∷ []) → P y
-all_last P [] y all = All-head P y [] all
-all_last P (x ∷ xs) y all = all_last P xs y (All-tail P x (xs ++ y ∷ []) all)
-
-abbrev top_of : Content → OrderedTree → Top
-top_of content below = record { content = content; below = below }
+-- and the row of those that stay
+all_stand : (ns : List Node) (xs : List ℕ) → row_in (top_at ns) (all_stay xs) ≡ standing ns xs
+all_stand ns [] = refl
+all_stand ns (n ∷ xs) = ap (more (content_at ns n) (row_below ns n)) (all_stand ns xs)
 
 module _ (o : Options) (old new : List Node) (path : List ℕ) (c : ℕ) (h : Headers) (order : List ℕ) (tree : IsTree old) (after : IsTree new) (sound : SoundTree o (ordered_tree old 0)) (at : IsAt old path c) (holds : IsTrue (is_array_or_object (content_at old c))) (perm : IsOrderIn old c order) where
   over : IsOver old 0 c
@@ -134,51 +113,28 @@ module _ (o : Options) (old new : List Node) (path : List ℕ) (c : ℕ) (h : He
   there : c < length old
   there = over_there old tree c over
 
-  held : Held o (content_at old c) (row_below old c)
-  held = held_at o old tree sound path c at holds
+  abbrev kind : RowKind
+  kind = (bracketed_row o old path c tree sound at holds).0
 
-  b : Brackets o old c held.kind held.row
-  b = brackets o old tree c there held
+  b : BracketedRow old c kind
+  b = (bracketed_row o old path c tree sound at holds).1
 
   whole : IsTrue (has_brackets old c)
   whole = has_its_brackets o old path c tree sound at holds
-
-  abbrev kids : List ℕ
-  kids = children_at old c
 
   abbrev top : ℕ → Top
   top = top_at old
 
   abbrev s : Sort
-  s = record { newline = newline_kind_at old c; headers = h; row = between kids; order = order }
+  s = record { newline = newline_kind_at old c; headers = h; row = between (children_at old c); order = order }
 
   abbrev close : OrderedTree
-  close = token_then (closing held.kind) none
+  close = token_then (closing kind) none
 
-  kids_there : All (λ n. n < length old) (b.open_with ∷ (b.inner ++ b.last ∷ []))
-  kids_there = subst (All (λ n. n < length old)) b.children (All-from_get_or (λ n. n < length old) kids 0 (λ k l. tree.in_tree c k l))
-
-  rest_there : All (λ n. n < length old) (b.inner ++ b.last ∷ [])
-  rest_there = All-tail (λ n. n < length old) b.open_with (b.inner ++ b.last ∷ []) kids_there
-
-  open_there : b.open_with < length old
-  open_there = All-head (λ n. n < length old) b.open_with (b.inner ++ b.last ∷ []) kids_there
-
-  last_there : b.last < length old
-  last_there = all_last (λ n. n < length old) b.inner b.last rest_there
-
-  inside : between kids ≡ b.inner
-  inside = ap between b.children ∙ between_is b.open_with b.last b.inner
-
-  row_was : row_below old c ≡ token_then (opening held.kind) (closed held.kind top (all_stay s.row))
-  row_was =
-      Shows-unique old kids (row_below old c) (row_in top (all_stay (b.open_with ∷ (b.inner ++ b.last ∷ [])))) (Shows-row_below old tree c there)
-      (subst (λ (l : List ℕ). Shows old l (row_in top (all_stay (b.open_with ∷ (b.inner ++ b.last ∷ []))))) (sym b.children) (shows_all old tree (b.open_with ∷ (b.inner ++ b.last ∷ [])) kids_there))
-      ∙ token_first old tree b.open_with (opening held.kind) (row_in top (all_stay (b.inner ++ b.last ∷ []))) b.opens
-      ∙ ap (token_then (opening held.kind)) (last_then old tree b.inner b.last (closing held.kind) b.closes ∙ ap (λ l. row_then top (all_stay l) close) (sym inside))
-
-  was_top : top_at old c ≡ container_before held.kind top s
-  was_top = same_top (content_at old c) (holder held.kind) (row_below old c) (token_then (opening held.kind) (closed held.kind top (all_stay s.row))) held.is row_was
+  -- with these places between its brackets
+  was_is : container_of kind (followed_by (standing old b.inner) close) ≡ container_before kind top s
+  was_is =
+      ap (container_of kind) (ap (λ r. followed_by r close) (sym (all_stand old b.inner)) ∙ row_joined top (all_stay b.inner) close ∙ ap (λ l. row_then top (all_stay l) close) (sym (in_row old tree c there b)))
 
   order_is : IsOrderOf top s.row s.order
   order_is = subst (λ (l : List ℕ). IsPermutation (range_with_len 0 (length l)) order) (elements_between old c whole) perm
@@ -186,72 +142,36 @@ module _ (o : Options) (old new : List Node) (path : List ℕ) (c : ℕ) (h : He
   entries_perm : IsPermutation (range_with_len 0 (length (entries (content_at old) h s.row))) order
   entries_perm = subst (λ n. IsPermutation (range_with_len 0 n) order) (sym (entry_count (content_at old) h s.row)) order_is
 
-  -- where the order is the old one, all stays
-  unchanged : is_unchanged order ≡ true → SortedAt path order (ordered_tree old 0) (ordered_tree old 0)
-  unchanged e =
-      let same : ChangedIn old old c = record { tree = tree; content = λ n ne. refl; children = λ n ne. refl } in
-      let changed : DocumentChanged (top_at old c) (top_at old c) path (ordered_tree old 0) (ordered_tree old 0) = changed_over old old c same tree refl c IsOver.itself (λ f. f) path at in
-      let slots : all_stay s.row ≡ slots_of top s = sym (rw e refl) in
-      let now : container_before held.kind top s ≡ container_after held.kind top s = ap (λ l. top_of (holder held.kind) (token_then (opening held.kind) (closed held.kind top l))) slots in
+  -- so it is where these take the place of those
+  in_places : (new : List Node) {now : OrderedTree} → DocumentChanged (bracketed kind (standing old b.inner)) (bracketed kind now) path (ordered_tree old 0) (ordered_tree new 0) → now ≡ row_in top (slots_of top s) → SortedAt path order (ordered_tree old 0) (ordered_tree new 0)
+  in_places new {now} changed e =
+      let now_is : bracketed kind now ≡ container_after kind top s = ap (container_of kind) (ap (λ r. followed_by r close) e ∙ row_joined top (slots_of top s) close) in
       record {
-        kind = held.kind;
+        kind = kind;
         top = top;
         sort = s;
         by = refl;
         is_order = order_is;
-        changed = subst (λ (w : Top). DocumentChanged (container_before held.kind top s) w path (ordered_tree old 0) (ordered_tree old 0)) now (subst (λ (w : Top). DocumentChanged w w path (ordered_tree old 0) (ordered_tree old 0)) was_top changed);
+        changed = subst (λ (w : Top). DocumentChanged (container_before kind top s) w path (ordered_tree old 0) (ordered_tree new 0)) now_is
+            (subst (λ (w : Top). DocumentChanged w (bracketed kind now) path (ordered_tree old 0) (ordered_tree new 0)) was_is changed);
       }
+
+  -- where the order is the old one, all stays
+  unchanged : is_unchanged order ≡ true → SortedAt path order (ordered_tree old 0) (ordered_tree old 0)
+  unchanged e =
+      let slots : all_stay s.row ≡ slots_of top s = sym (rw e refl) in
+      in_places old (row_stays old tree c there b path at) (sym (all_stand old b.inner) ∙ ap (λ l. row_in top (all_stay l)) (sym (in_row old tree c there b)) ∙ ap (λ l. row_in top l) slots)
 
   abbrev slots : List Slot
   slots = row_sorted old c h order
 
   slots_fit : AllFit old slots
   slots_fit =
-      let inner : Each (λ n. n < length old) s.row = subst (Each (λ n. n < length old)) (sym inside) (all_front (λ n. n < length old) b.inner (b.last ∷ []) rest_there) in
+      let inner : Each (λ n. n < length old) s.row = subst (Each (λ n. n < length old)) (sym (in_row old tree c there b)) (all_each (λ n. n < length old) b.inner (inner_there old tree c there b)) in
       all_fit old (content_at old) slots (sorted_held (content_at old) (λ n. n < length old) s.newline h s.row order inner entries_perm) (sorted_leaves (content_at old) s.newline h s.row order)
 
-  -- the row has taken its place
-  module _ (r : TakesRow old new c slots) where
-    ready_kids : children_at r.ready c ≡ b.open_with ∷ (b.inner ++ b.last ∷ [])
-    ready_kids = r.prepared.keeps.children c there ∙ b.children
-
-    abbrev spliced : Respliced r.ready new c
-    spliced = record { from = 1; to = length kids - 1; put = r.row; tree = r.prepared.tree; in_tree = omega (arith, there, r.prepared.keeps.len); after = r.tree; join = r.join; spliced = r.put }
-
-    row_is : row_below new c ≡ token_then (opening held.kind) (closed held.kind top slots)
-    row_is =
-        let ready : IsTree r.ready = r.prepared.tree in
-        let front : Shows r.ready (take 1 (children_at r.ready c)) (token_then (opening held.kind) none) =
-        subst (λ (l : List ℕ). Shows r.ready (take 1 l) (token_then (opening held.kind) none)) (sym ready_kids) (token_shown r.ready ready b.open_with (opening held.kind) (r.prepared.keeps.content b.open_with open_there ∙ b.opens)) in
-        let behind : drop (length kids - 1) (children_at r.ready c) ≡ b.last ∷ [] =
-        ap (drop (length kids - 1)) ready_kids ∙ last_is b.open_with b.last (length kids - 1) b.inner (ap (λ (l : List ℕ). length l - 1) b.children) in
-        let back : Shows r.ready (drop (length kids - 1) (children_at r.ready c)) close =
-        subst (λ (l : List ℕ). Shows r.ready l close) (sym behind) (token_shown r.ready ready b.last (closing held.kind) (r.prepared.keeps.content b.last last_there ∙ b.closes)) in
-        let shown : Shows r.ready r.row (row_in top slots) = subst (Shows r.ready r.row) (rows_same old slots) (filled_shown old r.ready tree r.prepared r.filled slots_fit) in
-        respliced_row r.ready new c spliced (token_then (opening held.kind) none) (row_in top slots) close front shown back
-        ∙ ap (token_then (opening held.kind)) (row_joined top slots close)
-
-    now_top : top_at new c ≡ container_after held.kind top s
-    now_top =
-        same_top (content_at new c) (holder held.kind) (row_below new c) (token_then (opening held.kind) (closed held.kind top slots))
-        (r.put.content c ∙ r.prepared.keeps.content c there ∙ held.is) row_is
-
-    changed_ready : DocumentChanged (top_at r.ready c) (top_at new c) path (ordered_tree r.ready 0) (ordered_tree new 0)
-    changed_ready = respliced_over r.ready new c spliced c IsOver.itself path (at_kept old r.ready tree r.prepared.keeps path c at)
-
-    rearranged_at : SortedAt path order (ordered_tree old 0) (ordered_tree new 0)
-    rearranged_at =
-        let was : top_at r.ready c ≡ container_before held.kind top s = top_stays old r.ready tree r.prepared.keeps r.prepared.tree c there ∙ was_top in
-        record {
-          kind = held.kind;
-          top = top;
-          sort = s;
-          by = refl;
-          is_order = order_is;
-          changed = subst (λ (t : OrderedTree). DocumentChanged (container_before held.kind top s) (container_after held.kind top s) path t (ordered_tree new 0)) (tree_stays old r.ready tree r.prepared.keeps r.prepared.tree)
-              (subst (λ (w : Top). DocumentChanged w (container_after held.kind top s) path (ordered_tree r.ready 0) (ordered_tree new 0)) was
-              (subst (λ (w : Top). DocumentChanged (top_at r.ready c) w path (ordered_tree r.ready 0) (ordered_tree new 0)) now_top changed_ready));
-        }
+  rearranged_at : TakesRow old new c slots → SortedAt path order (ordered_tree old 0) (ordered_tree new 0)
+  rearranged_at r = in_places new (row_taken old tree c there b new r slots_fit path at) (rows_same old slots)
 
   no_move : (a u : Bool) → a ≡ true → u ≡ true → (a && not u) ≡ false
   no_move a u e f = ap (λ x. x && not u) e ∙ ap not f

@@ -1,11 +1,11 @@
 -- What a sort makes of a document.
-use Rattle.std.proofs.Common.{◌≡◌, ℕ, true, false, List, [], ◌∷◌, ◌++◌, length, Option, Some, IsTrue, refl, sym, ap, subst}
+use Rattle.std.proofs.Common.{◌≡◌, ℕ, true, false, List, [], ◌∷◌, ◌++◌, length, Option, Some, refl, sym, ap, subst}
 use Rattle.std.specs.Prelude.{IsPermutation}
 use Rattle.std.specs.List.{range_with_len}
 use Rattle.jsonc_text.specs.Options.{Options}
 use Rattle.jsonc_text.specs.Plain.{Plain, Items, Members, array, object}
 use Rattle.jsonc_text.specs.Text.{next}
-use Rattle.jsonc_tree.specs.Content.{Content, token}
+use Rattle.jsonc_tree.specs.Content.{Content}
 use Rattle.jsonc_tree.specs.OrderedTree.{OrderedTree, Top, none, more, leaves, followed_by}
 use Rattle.jsonc_tree.specs.Values as values
 use Rattle.jsonc_tree.specs.Values.{DocumentValueOf, ItemsOf, MembersOf}
@@ -13,22 +13,20 @@ use Rattle.jsonc_sound.specs.Lines.{LinesEndLoosely}
 use Rattle.jsonc_sound.specs.Shape.{token_then}
 use Rattle.jsonc_sound.specs.Adjacent.{LeavesEnd}
 use Rattle.jsonc_sound.specs.Alone as alone
-use Rattle.jsonc_sound.specs.Alone.{RowAlone, may_come}
+use Rattle.jsonc_sound.specs.Alone.{RowAlone}
 use Rattle.jsonc_sound.specs.Changes.{Changed}
 use Rattle.jsonc_sound.specs.Rows as rows
-use Rattle.jsonc_sound.specs.Rows.{Last, RowKind, closing, container_of, may_end}
+use Rattle.jsonc_sound.specs.Rows.{RowKind, closing, container_of}
 use Rattle.jsonc_sound.specs.Sound.{HasValue}
 use Rattle.jsonc_sound.specs.SoundTrees.{SoundTree}
-use Rattle.jsonc_sound.specs.Spaces.{first_printed, is_bare_leaf}
 use Rattle.jsonc_sound.specs.TreeChanges.{DocumentChanged}
 use Rattle.jsonc_sound.proofs.NodesAlone.{value_alone, value_leaves}
 use Rattle.jsonc_sound.proofs.AtPath.{held_at_path}
 use Rattle.jsonc_sound.proofs.HeldValues.{document_held}
 use Rattle.jsonc_sound.proofs.LinesLeft.{row_lines}
+use Rattle.jsonc_sound.proofs.LooseChanges.{parted_loosely}
 use Rattle.jsonc_sound.proofs.SeamRows.{container_leaves, row_of}
-use Rattle.jsonc_sound.proofs.SoundTrees.{kept_where_none_meet}
-use Rattle.jsonc_sound.proofs.Commas.{and_false}
-use Rattle.jsonc_edit.proofs.LeafKinds.{first_not_bare}
+use Rattle.jsonc_edit.proofs.lemmas.multiline.SoundRows.{sound_with_row}
 use Rattle.jsonc_sort.specs.Slots.{Slot, all_stay, row_in, row_then, top_in}
 use Rattle.jsonc_sort.specs.Sorting.{entries, is_unchanged, lines_ended, rearranged, row_end}
 use Rattle.jsonc_sort.specs.Laws as laws
@@ -46,14 +44,6 @@ use Rattle.jsonc_sort.proofs.Weights.{entry_count}
 pub row_joined : (top : ℕ → Top) (slots : List Slot) (rest : OrderedTree) → followed_by (row_in top slots) rest ≡ row_then top slots rest
 row_joined top [] rest = refl
 row_joined top (slot ∷ slots) rest = ap (more (top_in top slot).content (top_in top slot).below) (row_joined top slots rest)
-
-bracket_comes : (o : Options) (kind : RowKind) (last : Last) → IsTrue (may_end o last) → IsTrue (may_come o last (token_then (closing kind) none))
-bracket_comes o rows.of_values last h = h
-bracket_comes o rows.of_properties last h = h
-
-bracket_apart : (kind : RowKind) → is_bare_leaf (first_printed (leaves (token_then (closing kind) none))) ≡ false
-bracket_apart rows.of_values = first_not_bare (token 0x5D) [] refl refl
-bracket_apart rows.of_properties = first_not_bare (token 0x7D) [] refl refl
 
 pub order_is : (top : ℕ → Top) (s : Sort) → IsOrderOf top s.row s.order → IsPermutation (range_with_len 0 (length (entries (content_of top) s.headers s.row))) s.order
 order_is top s p = subst (λ n. IsPermutation (range_with_len 0 n) s.order) (sym (entry_count (content_of top) s.headers s.row)) p
@@ -105,7 +95,7 @@ module _ (o : Options) (kind : RowKind) (top : ℕ → Top) (s : Sort) (order : 
       subst (λ x. DocumentChanged (container_of kind x) (container_of kind (closed kind top ended)) path t u) (sym (row_joined top (all_stay s.row) close)) c in
       let both : DocumentChanged (container_of kind (followed_by (row_in top (all_stay s.row)) close)) (container_of kind (followed_by (row_in top ended) close)) path t u =
       subst (λ x. DocumentChanged (container_of kind (followed_by (row_in top (all_stay s.row)) close)) (container_of kind x) path t u) (sym (row_joined top ended close)) first in
-      kept_where_none_meet o t sound kind none (row_in top (all_stay s.row)) (row_in top ended) close path u both r.to (runs_alone o kind top r.runs) (bracket_comes o kind r.to r.ends) lines (runs_end o kind top r.runs) refl (and_false _ _ (bracket_apart kind))
+      sound_with_row o kind (row_in top (all_stay s.row)) (row_in top ended) path t u both sound (record { to = r.to; stretch = runs_alone o kind top r.runs; may = r.ends; lines = (parted_loosely true false (row_in top ended) close lines).0; ends = runs_end o kind top r.runs })
 
 pub stays_sound : (o : Options) (t : OrderedTree) → StaysSound o t
 stays_sound o t sound kind top s path u c order =

@@ -1,7 +1,6 @@
 pub mod Whole
 pub mod Planned
 pub mod Coming
-pub mod Around
 pub mod Lines
 pub mod Ends
 pub mod Sound

@@ -2,7 +2,10 @@ pub mod Planning
 pub mod RowByNode
 pub mod WholeRow
 pub mod Reflow
+pub mod FilledRows
 pub mod OnLines
+pub mod BracketedRows
 pub mod Documents
+pub mod SoundRows
 pub mod SameDocument
 pub mod LineEnds

@@ -8,15 +8,18 @@ use Rattle.std.proofs.lemmas.List.Elements.{All-drop}
 use Rattle.jsonc_tree.specs.Changes.{Adds, CanAppend}
 use Rattle.jsonc_tree.specs.Content.{Content}
 use Rattle.jsonc_tree.specs.Order.{with_parent}
-use Rattle.jsonc_tree.specs.Siblings.{first, siblings_after, IsGap}
+use Rattle.jsonc_tree.specs.Siblings.{first, siblings_after, IsGap, TakesOut}
 use Rattle.jsonc_tree.specs.Tree.{Node, children_at, parent_at, place_at, is_container_at, IsTree}
-use Rattle.jsonc_tree.proofs.Appending.{CanAppend-adds}
+use Rattle.jsonc_tree.proofs.Appending.{CanAppend-adds, CanJoin-one}
+use Rattle.jsonc_tree.proofs.Builder.{Keeps-adds, Keeps-same}
+use Rattle.jsonc_tree.proofs.Moves.{CanJoin-none}
 use Rattle.jsonc_tree.proofs.Order.{parent_there}
 use Rattle.jsonc_layout.specs.nodes.Kinds.{is_element_at, is_comma}
 use Rattle.jsonc_layout.proofs.lemmas.nodes.InTree.{All-reverse}
 use Rattle.jsonc_layout.specs.lines.Siblings.{if_comma, is_no_trivia_at, trailing_comma_at}
 use Rattle.jsonc_tree.specs.Tree.{content_at}
-use Rattle.jsonc_edit.specs.commas.Commas.{comma_gone, comma_wanted_behind, has_newline, if_without_comma, last_element}
+use Rattle.jsonc_edit.specs.commas.Commas.{a_comma, comma_gone, comma_wanted_behind, has_newline, if_without_comma, last_element, CommaInsertedAfter}
+use Rattle.jsonc_edit.proofs.PutRows.{RowPut}
 use Rattle.jsonc_edit.proofs.RowEnds.{gap_after}
 
 -- the node is a child of c
@@ -96,3 +99,34 @@ module _ (old new : List Node) (content : Content) (tree : IsTree old) (after : 
 
   pub may_come : CanAppend new c (length old)
   may_come = CanAppend-adds old new content c after (parent_there old tree n c said).1 (holds old tree c n said) added
+
+-- so a comma that comes or leaves is one change of one row
+abbrev pub comma_in : (old new : List Node) (c n : ℕ) → IsTree old → IsTree new → parent_at old n ≡ Some c → CommaInsertedAfter old new c n → RowPut old new c
+comma_in old new c n tree after said r =
+    let may : CanAppend r.ready c (length old) = may_come old r.ready a_comma tree r.tree r.added c n said in
+    record {
+      ready = r.ready;
+      from = suc (place_at r.ready n);
+      to = suc (place_at r.ready n);
+      put = length old ∷ [];
+      tree = tree;
+      there = (parent_there old tree n c said).1;
+      prepared = record { keeps = Keeps-adds old r.ready a_comma r.added; tree = r.tree };
+      join = CanJoin-one r.ready (length old) c (suc (place_at r.ready n)) (suc (place_at r.ready n)) may.node may.not_root may.alone may.not_over;
+      spliced = r.put;
+      after = after;
+    }
+
+abbrev pub comma_out : (old new : List Node) (c k : ℕ) → IsTree old → IsTree new → c < length old → TakesOut old new c k → RowPut old new c
+comma_out old new c k tree after there s = record {
+  ready = old;
+  from = place_at old k;
+  to = suc (place_at old k);
+  put = [];
+  tree = tree;
+  there = there;
+  prepared = record { keeps = Keeps-same (length old) old; tree = tree };
+  join = CanJoin-none old c (place_at old k) (suc (place_at old k));
+  spliced = s;
+  after = after;
+}

@@ -4,12 +4,10 @@ use Rattle.std.proofs.lemmas.Bool.{false≢true}
 use Rattle.jsonc_text.specs.Options.{Options}
 use Rattle.jsonc_tree.specs.Content.{Content, array, object, property, token}
 use Rattle.jsonc_tree.specs.OrderedTree.{OrderedTree, none, more, followed_by, ordered_tree}
-use Rattle.jsonc_tree.specs.Tree.{Node, content_at, children_at, parent_at, place_at, is_container_at, IsTree, IsOver}
+use Rattle.jsonc_tree.specs.Tree.{Node, content_at, children_at, parent_at, place_at, IsTree, IsOver}
 use Rattle.jsonc_tree.specs.Values.{is_passed_over}
 use Rattle.jsonc_tree.proofs.Order.{over_step, parent_there}
-use Rattle.jsonc_tree.proofs.OrderedTrees.{Shows-unique}
 use Rattle.jsonc_layout.specs.nodes.Kinds.{is_element, is_element_at}
-use Rattle.jsonc_layout.proofs.lemmas.nodes.InTree.{children_there}
 use Rattle.jsonc_layout.specs.lines.Kinds.{is_array_or_object}
 use Rattle.jsonc_sound.specs.Shape.{IsLiteralBefore, IsNameBefore, IsTrivia, token_then}
 use Rattle.jsonc_sound.specs.Alone as alone
@@ -25,27 +23,17 @@ use Rattle.jsonc_edit.specs.Changes.{row_below, top_at}
 use Rattle.jsonc_edit.specs.Paths.{IsAt, IsElementOf, as_root, as_value, as_property, as_name, between}
 use Rattle.jsonc_edit.proofs.ShapedPlaces.{all_stand}
 use Rattle.jsonc_edit.proofs.Uniqueness.{element_parent}
-use Rattle.jsonc_edit.proofs.ChangesUpward.{changed_over, ChangedIn, Shows-row_below}
+use Rattle.jsonc_edit.proofs.ChangesUpward.{changed_over}
 use Rattle.jsonc_edit.specs.commas.InTurn.{holds_at}
-use Rattle.jsonc_edit.proofs.Standing.{shows_standing, standing, standing_then}
-
-pub row_stands : (ns : List Node) → IsTree ns → (n : ℕ) → n < length ns → row_below ns n ≡ standing ns (children_at ns n)
-row_stands ns tree n there =
-    Shows-unique ns (children_at ns n) (row_below ns n) (standing ns (children_at ns n)) (Shows-row_below ns tree n there) (shows_standing ns tree (children_at ns n) (children_there ns tree n))
-
--- nothing is below a leaf
-pub bare_leaf : (ns : List Node) → IsTree ns → (n : ℕ) → n < length ns → is_container_at ns n ≡ false → row_below ns n ≡ none
-bare_leaf ns tree n there leaf = row_stands ns tree n there ∙ ap (standing ns) (tree.leaf n leaf)
+use Rattle.jsonc_edit.proofs.Standing.{row_stands, standing, standing_then}
 
 -- nothing has changed
-pub same_nodes : (ns : List Node) (c : ℕ) → IsTree ns → ChangedIn ns ns c
-same_nodes ns c tree = record { tree = tree; content = λ n ne. refl; children = λ n ne. refl }
+pub same_document : (ns : List Node) → IsTree ns → (path : List ℕ) (c : ℕ) → IsAt ns path c → DocumentChanged (top_at ns c) (top_at ns c) path (ordered_tree ns 0) (ordered_tree ns 0)
+same_document ns tree path c at = changed_over ns ns c (record { tree = tree; content = λ n ne. refl; children = λ n ne. refl }) tree refl c IsOver.itself (λ e. e) path at
 
 -- a value at a path is one alone
 pub value_at_path : (o : Options) (ns : List Node) → IsTree ns → SoundTree o (ordered_tree ns 0) → (path : List ℕ) (c : ℕ) → IsAt ns path c → ValueAlone o (content_at ns c) (row_below ns c)
-value_at_path o ns tree sound path c at =
-    let there : DocumentChanged (top_at ns c) (top_at ns c) path (ordered_tree ns 0) (ordered_tree ns 0) = changed_over ns ns c (same_nodes ns c tree) tree refl c IsOver.itself (λ e. e) path at in
-    value_alone o (document_held o there sound.shaped).1
+value_at_path o ns tree sound path c at = value_alone o (document_held o (same_document ns tree path c at) sound.shaped).1
 
 no_property : (o : Options) {content : Content} {below : OrderedTree} → ValueAlone o content below → content ≡ property → ⊥
 no_property o (alone.literal {content = content} l) e = subst (λ c. IsLiteralBefore o c []) e l

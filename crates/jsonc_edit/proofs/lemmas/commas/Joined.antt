@@ -4,7 +4,7 @@ use Rattle.jsonc_tree.specs.Content.{array, object}
 use Rattle.jsonc_tree.specs.OrderedTree.{OrderedTree, Top, more}
 use Rattle.jsonc_sound.specs.TreeChanges.{IsElement, ElementChanged, this_element, passed, later_element, ValueChanged, itself, in_array, in_object, DocumentChanged, in_root, property_of}
 use Rattle.jsonc_sound.proofs.FirstNodes.{here, over, beyond, meets_first, no_element}
-use Rattle.jsonc_edit.proofs.lemmas.commas.Steps.{same_top}
+use Rattle.jsonc_edit.proofs.Standing.{same_top}
 
 -- the element that came is the one that leaves then, and the row has changed from the first to the last
 record Joined (a b c d : Top) (i : ℕ) (row new : OrderedTree) : Type 0 where

@@ -22,10 +22,9 @@ use Rattle.jsonc_edit.specs.commas.Commas.{comma_gone}
 use Rattle.jsonc_edit.specs.commas.InTurn.{holds_at}
 use Rattle.jsonc_edit.proofs.lemmas.commas.Children.{children_are, IsChild}
 use Rattle.jsonc_edit.proofs.lemmas.commas.CommaRows.{comma_first, trivia_comma}
-use Rattle.jsonc_edit.proofs.lemmas.commas.Holders.{row_stands}
 use Rattle.jsonc_edit.proofs.lemmas.commas.Splits.{bare_end, behind_last, empty, without_first, EndsBare, NoneOf}
 use Rattle.jsonc_edit.proofs.lemmas.commas.WiderShapes.{literal_before, name_before, trivia, trivia_leaf}
-use Rattle.jsonc_edit.proofs.Standing.{standing}
+use Rattle.jsonc_edit.proofs.Standing.{row_stands, standing}
 
 pub same_lexemes : (o : Options) → AgreeOnLexemes o (without_trailing o)
 same_lexemes o = record { single_quoted_strings = refl; hexadecimal_numbers = refl; unary_plus_numbers = refl; bare_decimal_points = refl; non_finite_numbers = refl; extended_escapes = refl }

@@ -22,12 +22,11 @@ use Rattle.jsonc_edit.specs.commas.Laws.{allowing, element_last, is_full, row_is
 use Rattle.jsonc_edit.proofs.lemmas.commas.Children.{children_are, IsChild}
 use Rattle.jsonc_edit.proofs.lemmas.commas.CommaRows.{comma_first}
 use Rattle.jsonc_edit.proofs.lemmas.commas.Documents.{keeps_document, sets_all}
-use Rattle.jsonc_edit.proofs.lemmas.commas.Holders.{row_stands}
 use Rattle.jsonc_edit.proofs.lemmas.commas.NoneLeft.{stays, tree_now}
 use Rattle.jsonc_edit.proofs.lemmas.commas.Reaching.{each_holder}
 use Rattle.jsonc_edit.proofs.lemmas.commas.Splits.{comma_found, none_found_back, parted_last, split_after, NoneOf}
 use Rattle.jsonc_edit.proofs.Lists.{either_off, both_so}
-use Rattle.jsonc_edit.proofs.Standing.{standing}
+use Rattle.jsonc_edit.proofs.Standing.{row_stands, standing}
 
 and_false : (b : Bool) → (b && false) ≡ false
 and_false true = refl

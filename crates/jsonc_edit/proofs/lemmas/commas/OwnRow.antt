@@ -27,23 +27,26 @@ none_of_none : (o : Option ℕ) → is_some o ≡ false → o ≡ None
 none_of_none None e = refl
 none_of_none (Some k) e = cc
 
--- the comma has left
-module _ (old new : List Node) (tree : IsTree old) (after : IsTree new) (c k : ℕ) (g : GoneComma old c k) (s : TakesOut old new c k) (only : comma_first (standing old g.back) ≡ false) where
+-- a comma stands behind the last element
+module _ (old : List Node) (c k : ℕ) (g : GoneComma old c k) where
   abbrev ahead : List ℕ
   ahead = g.front ++ g.last ∷ g.mid
 
   pub parts : children_at old c ≡ ahead ++ k ∷ g.back
   parts = g.are ∙ sym (append_assoc g.front (g.last ∷ g.mid) (k ∷ g.back))
 
-  place : place_at old k ≡ length ahead
-  place = split_place old tree c k ahead g.back parts
+  pub place : IsTree old → place_at old k ≡ length ahead
+  place tree = split_place old tree c k ahead g.back parts
 
-  pub row_now : children_at new c ≡ ahead ++ g.back
+-- it has left
+module _ (old new : List Node) (tree : IsTree old) (after : IsTree new) (c k : ℕ) (g : GoneComma old c k) (s : TakesOut old new c k) (only : comma_first (standing old g.back) ≡ false) where
+  pub row_now : children_at new c ≡ ahead old c k g ++ g.back
   row_now =
+      let front : List ℕ = ahead old c k g in
       s.children
-      ∙ ap (λ l. take (place_at old k) l ++ drop (suc (place_at old k)) l) parts
-      ∙ ap (λ l. l ++ drop (suc (place_at old k)) (ahead ++ k ∷ g.back)) (take_at ahead (k ∷ g.back) (place_at old k) (sym place))
-      ∙ ap (λ l. ahead ++ l) (drop_past ahead g.back k (suc (place_at old k)) (omega (arith, place)))
+      ∙ ap (λ l. take (place_at old k) l ++ drop (suc (place_at old k)) l) (parts old c k g)
+      ∙ ap (λ l. l ++ drop (suc (place_at old k)) (front ++ k ∷ g.back)) (take_at front (k ∷ g.back) (place_at old k) (sym (place old c k g tree)))
+      ∙ ap (λ l. front ++ l) (drop_past front g.back k (suc (place_at old k)) (omega (arith, place old c k g tree)))
 
   split : children_at new c ≡ g.front ++ g.last ∷ (g.mid ++ g.back)
   split = row_now ∙ append_assoc g.front (g.last ∷ g.mid) g.back

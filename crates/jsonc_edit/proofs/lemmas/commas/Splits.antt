@@ -137,9 +137,6 @@ module _ (ns : List Node) (tree : IsTree ns) (c n : ℕ) (front back : List ℕ)
   pub split_place : place_at ns n ≡ length front
   split_place = ap (place_at ns) (sym it) ∙ tree.placed c (length front) within
 
-  pub split_there : n < length ns
-  split_there = subst (λ m. m < length ns) it (tree.in_tree c (length front) within)
-
   pub split_after : siblings_after ns n ≡ back
   split_after =
       ap (λ o. drop (place_at ns n + 1) (with_parent o (children_at ns))) split_parent

@@ -23,8 +23,8 @@ use Rattle.jsonc_edit.specs.commas.Laws.{OnlyCommas, closes_bare, closes_next}
 use Rattle.jsonc_text.specs.declared.edit.TrailingCommaMode.{TrailingCommaMode}
 use Rattle.jsonc_text.proofs.Basics.{heads}
 use Rattle.jsonc_edit.proofs.lemmas.commas.CommaRows.{comma_first, Closing, bracket, behind}
-use Rattle.jsonc_edit.proofs.lemmas.commas.Holders.{held, holder_path, row_stands, value_at_path, Held}
-use Rattle.jsonc_edit.proofs.Standing.{standing}
+use Rattle.jsonc_edit.proofs.lemmas.commas.Holders.{held, holder_path, value_at_path, Held}
+use Rattle.jsonc_edit.proofs.Standing.{row_stands, standing}
 
 pub comma_leaf : (w : Content) → w ≡ token 0x2C → is_container w ≡ false
 comma_leaf w e = ap is_container e
@@ -96,12 +96,6 @@ pub record Step (mode : TrailingCommaMode) (o : Options) (t u : OrderedTree) : T
   pub marks : marks u ≡ marks t
   pub commas : OnlyCommas mode t u
 
-abbrev top_of : Content → OrderedTree → Top
-top_of content below = record { content = content; below = below }
-
-pub same_top : (a b : Content) (x y : OrderedTree) → a ≡ b → x ≡ y → top_of a x ≡ top_of b y
-same_top a b x y e f = ap (λ w. top_of w x) e ∙ ap (top_of b) f
-
 open_no_element : (kind : RowKind) (w : Content) → w ≡ token (opening kind) → is_element w ≡ true → ⊥
 open_no_element kind w e h = false≢true (sym (ap is_element e) ∙ h)
 
@@ -142,8 +136,13 @@ module _ (o : Options) (ns : List Node) (tree : IsTree ns) (sound : SoundTree o 
             bare = (let two : row_below ns x ≡ none = cc in two);
           }
 
--- the first bracket is not the last element
-pub opens_row : (o : Options) (ns : List Node) (c n : ℕ) (back : List ℕ) (i : Inside o ns c) → is_element_at ns n ≡ true → children_at ns c ≡ n ∷ back → ⊥
-opens_row o ns c n back i e are =
+-- which is not an element, so it stands before each
+pub record BracketFirst (x : ℕ) (front : List ℕ) : Type 0 where
+  pub rest : List ℕ
+  pub is : front ≡ x ∷ rest
+
+pub bracket_first : (o : Options) (ns : List Node) (c n : ℕ) (front back : List ℕ) (i : Inside o ns c) → is_element_at ns n ≡ true → children_at ns c ≡ front ++ n ∷ back → BracketFirst i.open_with front
+bracket_first o ns c n [] back i e are =
     let same : i.open_with ≡ n = heads (sym i.children ∙ are) in
-    open_no_element i.kind (content_at ns n) (ap (content_at ns) (sym same) ∙ i.opens) e
+    absurd (open_no_element i.kind (content_at ns n) (ap (content_at ns) (sym same) ∙ i.opens) e)
+bracket_first o ns c n (x ∷ front) back i e are = record { rest = front; is = ap (λ y. y ∷ front) (sym (heads (sym i.children ∙ are))) }

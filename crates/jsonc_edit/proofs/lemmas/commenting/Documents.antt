@@ -31,10 +31,9 @@ use Rattle.jsonc_edit.proofs.LeavesAroundNodes.{within, Within}
 use Rattle.jsonc_edit.proofs.OneValue.{document_once}
 use Rattle.jsonc_edit.proofs.SeamsAround.{holds_children}
 use Rattle.jsonc_edit.proofs.lemmas.commenting.Above.{at_line, at_seam}
-use Rattle.jsonc_edit.proofs.lemmas.commenting.Around.{come_around}
 use Rattle.jsonc_edit.proofs.lemmas.commenting.Behind.{comes_behind}
 use Rattle.jsonc_edit.proofs.lemmas.commenting.Blanks.{end_child}
-use Rattle.jsonc_edit.proofs.lemmas.commenting.Coming.{come_replaced, cut_at}
+use Rattle.jsonc_edit.proofs.lemmas.commenting.Coming.{come_around, come_replaced, cut_at}
 use Rattle.jsonc_edit.proofs.lemmas.commenting.Commas.{no_comma_follows}
 use Rattle.jsonc_edit.proofs.lemmas.commenting.Places.{ends_behind, starts_itself, starts_seam, NoneFollows}
 use Rattle.jsonc_edit.proofs.lemmas.commenting.Sound.{come_differs, Arrival}

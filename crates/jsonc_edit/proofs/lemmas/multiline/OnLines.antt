@@ -4,29 +4,22 @@ use Rattle.std.specs.List.{flat_map, list_any, suffix_len}
 use Rattle.std.proofs.lemmas.List.{take-append-drop}
 use Rattle.std.proofs.lemmas.List.Elements.{All-from_get_or, All-head, All-tail, All-take}
 use Rattle.jsonc_text.proofs.Basics.{or_right}
-use Rattle.jsonc_tree.specs.Content.{Content, is_container, newline}
-use Rattle.jsonc_tree.specs.OrderedTree.{OrderedTree, none, more, grown, plant}
-use Rattle.jsonc_tree.specs.Tree.{Node, content_at, children_at, IsTree}
+use Rattle.jsonc_tree.specs.Content.{Content, newline}
+use Rattle.jsonc_tree.specs.OrderedTree.{OrderedTree, none, more}
+use Rattle.jsonc_tree.specs.Tree.{Node, content_at, IsTree}
 use Rattle.jsonc_tree.specs.declared.node.CstNewlineKind.{CstNewlineKind}
 use Rattle.jsonc_layout.specs.nodes.Kinds.{is_newline, is_newline_at, is_whitespace, is_whitespace_at, is_comma_at}
 use Rattle.jsonc_edit.specs.Changes.{row_below}
 use Rattle.jsonc_edit.specs.Writing.{IsIndent}
-use Rattle.jsonc_edit.specs.multiline.Slots.{Slot, stays, comes, top_in, row_in}
+use Rattle.jsonc_edit.specs.multiline.Slots.{Slot, comes, top_in, row_in}
 use Rattle.jsonc_edit.specs.multiline.Lines.{Lines, last_line, indent_if_any, on_line, on_lines, parts, without_back, without_front}
 use Rattle.jsonc_edit.specs.multiline.Plans.{child_slots, begins_behind}
 use Rattle.jsonc_edit.specs.multiline.Reflows.{starts_line, has_newline, Spot, behind, goes_on_lines, is_on_lines, Reflows, ended, kept, gone, line, line_end}
 use Rattle.jsonc_edit.proofs.lemmas.multiline.RowByNode.{woven, both_woven}
 use Rattle.jsonc_edit.proofs.LeafKinds.{blank_leaf}
 use Rattle.jsonc_edit.proofs.Lists.{suffix_passes}
-use Rattle.jsonc_edit.proofs.Standing.{standing}
-
--- nothing is below a node without children
-pub bare_below : (ns : List Node) (n : ℕ) → children_at ns n ≡ [] → row_below ns n ≡ none
-bare_below ns n e = by (length ns)
-  where
-    by : (depth : ℕ) → grown depth ns n ≡ none
-    by zero = refl
-    by (suc depth) = ap (plant (content_at ns) (grown depth ns)) e
+use Rattle.jsonc_edit.proofs.lemmas.multiline.FilledRows.{fit_then, AllFit}
+use Rattle.jsonc_edit.proofs.Standing.{bare_below, standing}
 
 -- the end of a line is in the row where it is among the nodes
 pub standing_newline : (ns : List Node) (xs : List ℕ) → has_newline (standing ns xs) ≡ list_any (is_newline_at ns) xs
@@ -154,20 +147,8 @@ module _ (old : List Node) (tree : IsTree old) (lines : Lines) (inner : IsIndent
       subst (λ (l : List Slot). IsTrue (is_on_lines (Then l))) (sym (both_woven lines old (without_back old row)).0)
       (woven_on_lines true (without_back old row) (none_taken (is_newline_at old) (length row - suffix_len (is_whitespace_at old) row) row lacking))
 
--- what a row on several lines is made of: children that are there, and leaves
-abbrev pub Fits : List Node → Slot → Type 0
-Fits ns (stays n) = n < length ns
-Fits ns (comes content) = is_container content ≡ false
-
-abbrev pub AllFit : List Node → List Slot → Type 0
-AllFit ns [] = Unit {0}
-AllFit ns (slot ∷ rest) = Fits ns slot × AllFit ns rest
-
+-- a row on several lines is made of children that are there, and leaves
 module _ (lines : Lines) (ns : List Node) where
-  fit_then : (first second : List Slot) → AllFit ns first → AllFit ns second → AllFit ns (first ++ second)
-  fit_then [] second a b = b
-  fit_then (slot ∷ first) second a b = (a.0, fit_then first second a.1 b)
-
   child_fits : (begins blank : Bool) (n : ℕ) → n < length ns → AllFit ns (child_slots lines begins blank n)
   child_fits true true n h = tt
   child_fits true false n h = (refl, (refl, (h, tt)))
@@ -176,7 +157,7 @@ module _ (lines : Lines) (ns : List Node) where
   woven_fits : (begins : Bool) (row : List ℕ) → All (λ n. n < length ns) row → AllFit ns (woven lines ns begins row)
   woven_fits begins [] all = tt
   woven_fits begins (n ∷ row) all =
-      fit_then (child_slots lines begins (is_whitespace_at ns n) n) (woven lines ns (begins_behind begins (is_whitespace_at ns n) (is_comma_at ns n)) row) (child_fits begins (is_whitespace_at ns n) n (All-head (λ m. m < length ns) n row all))
+      fit_then ns (child_slots lines begins (is_whitespace_at ns n) n) (woven lines ns (begins_behind begins (is_whitespace_at ns n) (is_comma_at ns n)) row) (child_fits begins (is_whitespace_at ns n) n (All-head (λ m. m < length ns) n row all))
       (woven_fits (begins_behind begins (is_whitespace_at ns n) (is_comma_at ns n)) row (All-tail (λ m. m < length ns) n row all))
 
   last_fits : AllFit ns (last_line lines)
@@ -190,4 +171,4 @@ module _ (lines : Lines) (ns : List Node) where
   on_lines_fit row all =
       let front : List ℕ = without_back ns row in
       let fits : AllFit ns (woven lines ns true front) = woven_fits true front (All-take (λ n. n < length ns) (length row - suffix_len (is_whitespace_at ns) row) row all) in
-      fit_then (flat_map (λ part. on_line lines (without_front ns part)) (parts ns front)) (last_line lines) (subst (AllFit ns) (sym (both_woven lines ns front).0) fits) last_fits
+      fit_then ns (flat_map (λ part. on_line lines (without_front ns part)) (parts ns front)) (last_line lines) (subst (AllFit ns) (sym (both_woven lines ns front).0) fits) last_fits

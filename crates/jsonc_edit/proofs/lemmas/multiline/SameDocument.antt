@@ -1,48 +1,33 @@
 -- A sound document in which an array or object has been spread out says the same.
-use Rattle.std.proofs.Common.{◌≡◌, ◌∙◌, ℕ, Bool, true, false, ◌&&◌, ◌||◌, List, ◌∷◌, ◌++◌, Option, Some, None, IsTrue, refl, sym, ap, subst, if◌then◌else◌}
+use Rattle.std.proofs.Common.{◌≡◌, ◌∙◌, ℕ, false, ◌||◌, List, ◌∷◌, ◌++◌, Option, Some, None, IsTrue, refl, sym, ap, subst, if◌then◌else◌}
 use Rattle.jsonc_text.specs.Options.{Options}
 use Rattle.jsonc_text.specs.Grammar.{IsDocument}
 use Rattle.jsonc_text.specs.Plain.{Plain, Items, item, Members, member}
-use Rattle.jsonc_text.specs.Text.{next, starts}
-use Rattle.jsonc_tree.specs.Content.{Content, token}
-use Rattle.jsonc_tree.specs.OrderedTree.{OrderedTree, Top, none, more, followed_by, leaves}
+use Rattle.jsonc_tree.specs.Content.{Content}
+use Rattle.jsonc_tree.specs.OrderedTree.{OrderedTree, Top, none, more, followed_by}
 use Rattle.jsonc_tree.specs.Values as values
 use Rattle.jsonc_tree.specs.Values.{DocumentValueOf}
-use Rattle.jsonc_tree.proofs.OrderedTrees.{leaves-followed_by}
 use Rattle.jsonc_layout.specs.nodes.Kinds.{is_newline, is_whitespace}
-use Rattle.jsonc_sound.specs.Lines.{LinesEndLoosely}
 use Rattle.jsonc_sound.specs.Shape.{printed_text, token_then}
 use Rattle.jsonc_sound.proofs.ShapeValues.{document_printed}
-use Rattle.jsonc_sound.specs.Adjacent.{first_char, follower, LeavesEnd, last_printed}
-use Rattle.jsonc_sound.specs.Alone.{RowAlone, StretchAlone}
 use Rattle.jsonc_sound.specs.Changes as changes
 use Rattle.jsonc_sound.specs.Changes.{ItemChanged, MemberChanged, Changed}
 use Rattle.jsonc_sound.specs.Marks.{marks}
 use Rattle.jsonc_sound.specs.MarkChanges.{marks_under}
 use Rattle.jsonc_sound.specs.Rows as rows
-use Rattle.jsonc_sound.specs.Rows.{RowKind, closing, Last}
+use Rattle.jsonc_sound.specs.Rows.{RowKind, closing}
 use Rattle.jsonc_sound.specs.Sound.{HasValue}
 use Rattle.jsonc_sound.specs.SoundTrees.{SoundTree}
-use Rattle.jsonc_sound.specs.Spaces.{is_bare_leaf, first_printed, meet}
 use Rattle.jsonc_sound.specs.TreeChanges.{DocumentChanged}
-use Rattle.jsonc_sound.proofs.NodesAlone.{value_alone, value_leaves}
 use Rattle.jsonc_sound.proofs.AtPath.{held_at_path}
 use Rattle.jsonc_sound.proofs.ReplacedStretches.{values_marks}
-use Rattle.jsonc_sound.proofs.HeldValues.{document_held}
-use Rattle.jsonc_sound.proofs.Leaves.{parted_leaves, last_serves}
 use Rattle.jsonc_sound.proofs.LeavesAround.{document_differs}
-use Rattle.jsonc_sound.proofs.LinesLeft.{row_lines}
-use Rattle.jsonc_sound.proofs.LooseChanges.{joined_loosely, parted_loosely}
-use Rattle.jsonc_sound.proofs.RowParts.{row_comes}
-use Rattle.jsonc_sound.proofs.SeamRows.{container_leaves, row_of}
-use Rattle.jsonc_sound.proofs.SeamStretches.{parted_row}
-use Rattle.jsonc_sound.proofs.SoundTrees.{kept_where_none_meet}
-use Rattle.jsonc_sound.proofs.Spaces.{last_of, serves_unless, stretch_no_word}
 use Rattle.jsonc_edit.proofs.OneValue.{document_once}
 use Rattle.jsonc_edit.specs.multiline.Laws.{bracketed, solid_nodes, SpreadAt, SaysTheSame, KeepsDocument, KeepsLeavesOutside, KeepsNodesInside}
 use Rattle.jsonc_edit.specs.multiline.Reflows.{starts_line, Reflows, ended, kept, gone, line, line_end, SpreadsOut, stays, reflows}
 use Rattle.jsonc_edit.proofs.lemmas.multiline.Reflow.{items_reflow, members_reflow, marks_reflow, lines_reflow, stretch_reflow, leaves_reflow}
 use Rattle.jsonc_edit.proofs.SoundValues.{some_value}
+use Rattle.jsonc_edit.proofs.lemmas.multiline.SoundRows.{row_in_document, sound_with_row, IsRow}
 use Rattle.jsonc_edit.proofs.lemmas.commas.Steps.{under_bracket}
 
 -- what stands behind both rows
@@ -81,22 +66,6 @@ value_same changes.itself = refl
 value_same (changes.in_array {i = i} {y = y} {vs = vs} {ws = ws} e k) = ap Plain.array (item_same (subst (λ z. ItemChanged z y i vs ws) (value_same k) e))
 value_same (changes.in_object {i = i} {y = y} {ms = ms} {ns = ns} e k) = ap Plain.object (member_same (subst (λ z. MemberChanged z y i ms ns) (value_same k) e))
 
--- no bracket is a literal
-pub no_bracket : (new : OrderedTree) (c : ℕ) → meet (leaves new) (leaves (token_then c none)) ≡ false
-no_bracket new c = both_false (is_bare_leaf (last_printed (leaves new))) (is_bare_leaf (first_printed (leaves (token_then c none)))) (by (starts (λ b. true) (first_char (token c))))
-  where
-    by : (b : Bool) → is_bare_leaf (if b then Some (token c) else None) ≡ false
-    by true = refl
-    by false = refl
-
-    both_false : (a b : Bool) → b ≡ false → a && b ≡ false
-    both_false true b e = e
-    both_false false b e = refl
-
--- a stretch that ends before something ends before the end
-stretch_last : (o : Options) (kind : RowKind) {last to : Last} {s : OrderedTree} (n : Option ℕ) → StretchAlone o kind last s to → LeavesEnd o (leaves s) n → LeavesEnd o (leaves s) None
-stretch_last o kind {s = s} n g h = last_serves o (leaves s) n None h (serves_unless o (last_printed (leaves s)) n None (stretch_no_word o g) (λ b. refl) (last_of o (leaves s) n h))
-
 module _ (o : Options) (kind : RowKind) (row new : OrderedTree) (r : Reflows row new) where
   abbrev bracket : OrderedTree
   bracket = token_then (closing kind) none
@@ -107,6 +76,15 @@ module _ (o : Options) (kind : RowKind) (row new : OrderedTree) (r : Reflows row
       by : (k : RowKind) (w : Plain) → HasValue o (bracketed k row) w → HasValue o (bracketed k new) w
       by rows.of_values _ (values.array g) = values.array (items_reflow o (kept (reflows_then (token_then (closing rows.of_values) none) r)) g)
       by rows.of_properties _ (values.object g) = values.object (members_reflow o (kept (reflows_then (token_then (closing rows.of_properties) none) r)) g)
+
+  pub reflowed_row : IsRow o kind row → IsRow o kind new
+  reflowed_row s = record {
+    to = s.to;
+    stretch = stretch_reflow o r rows.nothing_yet s.to s.stretch;
+    may = s.may;
+    lines = lines_reflow o false r s.lines;
+    ends = leaves_reflow o r rows.nothing_yet s.to s.stretch None s.ends;
+  }
 
   module _ (t u : OrderedTree) (path : List ℕ) (changed : DocumentChanged (bracketed kind row) (bracketed kind new) path t u) where
     same_value : (x : Plain) → DocumentValueOf o t (Some x) → DocumentValueOf o u (Some x)
@@ -125,23 +103,9 @@ module _ (o : Options) (kind : RowKind) (row new : OrderedTree) (r : Reflows row
         let same : marks_under (bracketed kind new) ≡ marks_under (bracketed kind row) = under_bracket kind (followed_by new bracket) ∙ marks_reflow o (reflows_then bracket r) ∙ sym (under_bracket kind (followed_by row bracket)) in
         d.after ∙ ap (λ ms. d.front ++ (ms ++ d.back)) same ∙ sym d.before
 
-    sound_still : SoundTree o t → SoundTree o u
-    sound_still s =
-        let full : OrderedTree = followed_by row bracket in
-        let v = document_held o changed s.shaped in
-        let alone : RowAlone o kind rows.nothing_yet full = row_of o kind full (value_alone o v.1) in
-        let parts = parted_row o kind row alone in
-        let ends : LeavesEnd o (leaves full) (next v.0) = (subst (λ a. LeavesEnd o a (next v.0)) (container_leaves kind full) (value_leaves o v.1)).1 in
-        let first = (parted_leaves o (leaves row) (leaves bracket) (next v.0) (subst (λ ls. LeavesEnd o ls (next v.0)) (leaves-followed_by row bracket) ends)).0 in
-        let stretch = stretch_reflow o r rows.nothing_yet parts.0 parts.1 in
-        let last = stretch_last o kind (follower (leaves bracket) (next v.0)) stretch (leaves_reflow o r rows.nothing_yet parts.0 parts.1 (follower (leaves bracket) (next v.0)) first) in
-        let loose = parted_loosely true false row bracket (row_lines kind full changed s.lines) in
-        let whole : LinesEndLoosely true false (followed_by new bracket) = joined_loosely true false new bracket (lines_reflow o false r loose.0) loose.1 in
-        kept_where_none_meet o t s kind none row new bracket path u changed parts.0 stretch (row_comes o kind parts.2) whole last refl (no_bracket new (closing kind))
-
     says_the_same : SoundTree o t → SaysTheSame o t u
     says_the_same s =
-        let still : SoundTree o u = sound_still s in
+        let still : SoundTree o u = sound_with_row o kind row new path t u changed s (reflowed_row (row_in_document o kind row s changed)) in
         let was = document_printed o t s.shaped s.lines in
         let is = document_printed o u still.shaped still.lines in
         record {

@@ -1,5 +1,5 @@
 -- Where a first value has come, it has come among the rows of roots.
-use Rattle.std.proofs.Common.{◌≡◌, ℕ, zero, suc, ◌+◌, ◌<◌, Bool, false, List, [], ◌∷◌, ◌++◌, length, map, take, drop, slice_index, None, IsTrue, refl, sym, ap, subst, ◌∙◌, arith, length-append, length-take, length-drop, get_or-take, get_or-drop}
+use Rattle.std.proofs.Common.{◌≡◌, ℕ, zero, suc, ◌<◌, Bool, false, List, [], ◌∷◌, ◌++◌, length, map, take, drop, None, IsTrue, refl, sym, ap, subst, ◌∙◌, arith, length-append}
 use Rattle.std.specs.List.{find}
 use Rattle.std.proofs.Math.Seq.{get_or-append_seam}
 use Rattle.jsonc_text.specs.Options.{Options}
@@ -8,7 +8,6 @@ use Rattle.jsonc_tree.specs.Content.{Content}
 use Rattle.jsonc_tree.specs.OrderedTree.{OrderedTree, none, more, followed_by, Shows, shows_none, shows_more, ordered_tree}
 use Rattle.jsonc_tree.specs.Tree.{Node, content_at, children_at, IsTree}
 use Rattle.jsonc_tree.specs.Values.{is_passed_over}
-use Rattle.jsonc_tree.proofs.Builder.{Shows-keeps}
 use Rattle.jsonc_tree.proofs.OrderedTrees.{Shows-unique}
 use Rattle.jsonc_tree.proofs.Rows.{Shows-append, followed_by-assoc}
 use Rattle.jsonc_layout.specs.nodes.Kinds.{is_element_at}
@@ -24,11 +23,11 @@ use Rattle.jsonc_sound.proofs.Changed.{alone_element}
 use Rattle.jsonc_sound.specs.Coming.{ValueInserted, value_comes}
 use Rattle.jsonc_sound.specs.Leaving.{among}
 use Rattle.jsonc_sound.proofs.RootRows.{leaves_then_joined, line_ends_trivia, passed_first, root_alone}
-use Rattle.jsonc_edit.specs.Changes.{row_below, Respliced}
+use Rattle.jsonc_edit.specs.Changes.{row_below}
 use Rattle.jsonc_edit.specs.Reading.{layout_for}
 use Rattle.jsonc_layout.specs.from_input.Laid.{laid}
 use Rattle.jsonc_edit.proofs.FittingFinds.{none_first}
-use Rattle.jsonc_edit.proofs.Splices.{respliced_row}
+use Rattle.jsonc_edit.proofs.PutRows.{shown_put, RowPut}
 use Rattle.jsonc_edit.proofs.ChangesUpward.{Shows-row_below, document_is}
 use Rattle.jsonc_edit.specs.set.RootSet.{first_place, leads_in, leads_out, line_end_if, FirstValue}
 use Rattle.jsonc_edit.specs.set.Laws.{ComesAmongRows}
@@ -113,28 +112,6 @@ module _ (old new : List Node) (v : Plain) (m : ℕ) (tree : IsTree old) (f : Fi
   quiet_back : AreTrivia back
   quiet_back = trivia_dropped (content_at old) row place quiet
 
-  same_row : children_at f.ready 0 ≡ row
-  same_row = f.prepared.keeps.children 0 tree.first
-
-  front_there : (k : ℕ) → k < length (take place row) → slice_index (take place row) k < length old
-  front_there k h =
-      let low : k < place = omega (arith, h, length-take place row) in
-      let inside : k < length row = omega (arith, h, length-take place row) in
-      subst (λ n. n < length old) (sym (get_or-take place row k 0 low)) (tree.in_tree 0 k inside)
-
-  back_there : (k : ℕ) → k < length (drop place row) → slice_index (drop place row) k < length old
-  back_there k h = subst (λ n. n < length old) (sym (get_or-drop place row k 0)) (tree.in_tree 0 (place + k) (omega (arith, h, length-drop place row)))
-
-  front_shown : Shows f.ready (take place (children_at f.ready 0)) (leaves_then front none)
-  front_shown =
-      subst (λ (l : List ℕ). Shows f.ready (take place l) (leaves_then front none)) (sym same_row)
-      (Shows-keeps old f.ready tree f.prepared.keeps (take place row) (leaves_then front none) front_there (leaf_row old tree (take place row) quiet_front))
-
-  back_shown : Shows f.ready (drop place (children_at f.ready 0)) (leaves_then back none)
-  back_shown =
-      subst (λ (l : List ℕ). Shows f.ready (drop place l) (leaves_then back none)) (sym same_row)
-      (Shows-keeps old f.ready tree f.prepared.keeps (drop place row) (leaves_then back none) back_there (leaf_row old tree (drop place row) quiet_back))
-
   abbrev before : List Content
   before = line_end_if (leads_in old) (newline_kind_of old)
 
@@ -161,14 +138,13 @@ module _ (old new : List Node) (v : Plain) (m : ℕ) (tree : IsTree old) (f : Fi
   node_shown =
       subst (λ (t : Top). Shows f.ready (m ∷ f.behind) (more t.content t.below (leaves_then behind none))) f.is (shows_more {after = leaves_then behind none} (Shows-row_below f.ready f.prepared.tree m m_there) behind_shown)
 
-  abbrev respliced : Respliced f.ready new 0
-  respliced = record { from = place; to = place; put = f.before ++ m ∷ f.behind; tree = f.prepared.tree; in_tree = f.prepared.tree.first; after = f.tree; join = f.join; spliced = f.put }
+  abbrev put : RowPut old new 0
+  put = record { ready = f.ready; from = place; to = place; put = f.before ++ m ∷ f.behind; tree = tree; there = tree.first; prepared = f.prepared; join = f.join; spliced = f.put; after = f.tree }
 
   new_row : row_below new 0 ≡ leaves_then (front ++ before) (among [] top [] (leaves_then (behind ++ back) none))
   new_row =
       let node : OrderedTree = more top.content top.below (leaves_then behind none) in
-      respliced_row f.ready new 0 respliced (leaves_then front none) (followed_by (leaves_then before none) node) (leaves_then back none) front_shown
-      (Shows-append f.ready f.before (m ∷ f.behind) (leaves_then before none) node before_shown node_shown) back_shown
+      shown_put old new 0 put (leaf_row old tree (take place row) quiet_front) (Shows-append f.ready f.before (m ∷ f.behind) (leaves_then before none) node before_shown node_shown) (leaf_row old tree (drop place row) quiet_back)
       ∙ all_together front before behind back top
 
   old_row : row_below old 0 ≡ leaves_then (front ++ back) none

@@ -9,6 +9,7 @@ use Rattle.jsonc_tree.specs.OrderedTree.{OrderedTree, none, more, leaves, follow
 use Rattle.jsonc_tree.specs.Order.{with_parent}
 use Rattle.jsonc_tree.specs.Siblings.{siblings_after}
 use Rattle.jsonc_tree.specs.Tree.{Node, content_at, parent_at, children_at, place_at, IsTree, IsOver}
+use Rattle.jsonc_tree.proofs.Builder.{Keeps-same}
 use Rattle.jsonc_tree.proofs.Order.{parent_there}
 use Rattle.jsonc_sound.specs.Shape.{token_then}
 use Rattle.jsonc_sound.proofs.ShapeValues.{document_printed}
@@ -18,7 +19,7 @@ use Rattle.jsonc_layout.specs.from_input.Laid.{laid_property}
 use Rattle.jsonc_layout.specs.from_input.Texts.{IsCharacters}
 use Rattle.jsonc_sound.specs.ChangeLaws.{DiffersIn}
 use Rattle.jsonc_sound.specs.Rows as rows
-use Rattle.jsonc_sound.specs.TreeChanges.{IsElement, leaves_of, property_of, DocumentChanged}
+use Rattle.jsonc_sound.specs.TreeChanges.{IsElement, leaves_of, property_of}
 use Rattle.jsonc_sound.proofs.HeldValues.{document_held}
 use Rattle.jsonc_sound.proofs.LeavesAround.{document_differs, within}
 use Rattle.jsonc_sound.specs.Adjacent.{last_printed}
@@ -32,13 +33,13 @@ use Rattle.jsonc_sound.specs.MarkChanges.{MarksDifferIn, marks_under}
 use Rattle.jsonc_sound.specs.Written.{property_written}
 use Rattle.jsonc_sound.proofs.Laid.{laid_as_written_named}
 use Rattle.jsonc_sound.specs.Leaving.{element_count}
-use Rattle.jsonc_sound.specs.Properties.{among_properties, object_of, IsNewProperty, PropertyChanged, ReplacesMember}
+use Rattle.jsonc_sound.specs.Properties.{among_properties, IsNewProperty, PropertyChanged, ReplacesMember}
 use Rattle.jsonc_sound.proofs.GivenProperties.{sound_with_property, value_with_property, marks_with_property}
 use Rattle.jsonc_sound.proofs.Commas.{and_false}
 use Rattle.jsonc_edit.specs.Due.{nearest, begins_bare, behind_holder, listed}
 use Rattle.jsonc_edit.proofs.NearestLeaves.{back_bare}
 use Rattle.jsonc_edit.proofs.WholeRows.{Whole, whole_behind, row_whole}
-use Rattle.jsonc_edit.specs.Changes.{row_below, top_at, Replaces, Respliced}
+use Rattle.jsonc_edit.specs.Changes.{row_below, top_at, Replaces}
 use Rattle.jsonc_edit.specs.Paths.{IsAt, IsElementOf}
 use Rattle.jsonc_edit.specs.Reading.{layout_for}
 use Rattle.jsonc_edit.specs.Spaced.{SpacesPut}
@@ -47,7 +48,8 @@ use Rattle.jsonc_edit.proofs.Elements.{Some_same, StandsAt, stands_at}
 use Rattle.jsonc_edit.proofs.Fitting.{layout_fits}
 use Rattle.jsonc_edit.proofs.NodesKept.{at_kept, filter_same, top_stays, tree_stays}
 use Rattle.jsonc_edit.proofs.Spacing.{all_spaced, Spaced, spaces_marks, spaces_sound, elements_spaced}
-use Rattle.jsonc_edit.proofs.Splices.{joined_top, respliced_over, respliced_row}
+use Rattle.jsonc_edit.proofs.PutRows.{changed_put, document_put, shown_put, RowPut}
+use Rattle.jsonc_edit.proofs.Splices.{joined_top}
 use Rattle.jsonc_edit.proofs.Uniqueness.{element_parent, over_at}
 use Rattle.jsonc_edit.proofs.ChangesUpward.{Shows-row_below}
 use Rattle.jsonc_edit.proofs.Writable.{property_may_stand, value_may_stand}
@@ -143,17 +145,14 @@ module _ (o : Options) (old new : List Node) (path : List ℕ) (c i n m : ℕ) (
   join : CanJoin spaced c (place_at spaced n) (place_at spaced n + 1) (m ∷ [])
   join = subst (λ k. CanJoin spaced k (place_at spaced n) (place_at spaced n + 1) (m ∷ [])) same r.join
 
-  respliced : Respliced spaced new c
-  respliced = record { from = place_at spaced n; to = place_at spaced n + 1; put = m ∷ []; tree = s.tree; in_tree = c_spaced; after = r.after; join = join; spliced = put }
-
-  container_changed : DocumentChanged (top_at spaced c) (top_at new c) path (ordered_tree spaced 0) (ordered_tree new 0)
-  container_changed = respliced_over spaced new c respliced c IsOver.itself path at_spaced
+  abbrev row_put : RowPut spaced new c
+  row_put = record { ready = spaced; from = place_at spaced n; to = place_at spaced n + 1; put = m ∷ []; tree = s.tree; there = c_spaced; prepared = record { keeps = Keeps-same (length spaced) spaced; tree = s.tree }; join = join; spliced = put; after = r.after }
 
   object_spaced : content_at spaced c ≡ object
   object_spaced = s.content c ∙ kept.content c c_there ∙ is_object
 
   held : ObjectRow o (row_below spaced c)
-  held = object_row o object_spaced (value_alone o (document_held o container_changed still_sound.shaped).1)
+  held = object_row o object_spaced (value_alone o (document_held o (changed_put spaced new c row_put c c_spaced IsOver.itself path at_spaced) still_sound.shaped).1)
 
   kind_spaced : IsElement (content_at spaced n)
   kind_spaced = subst IsElement (sym (s.content n ∙ kept.content n n_there)) kind
@@ -188,17 +187,12 @@ module _ (o : Options) (old new : List Node) (path : List ℕ) (c i n m : ℕ) (
       (shows_more {after = none} (Shows-row_below spaced s.tree m (join.in_tree 0 (omega arith))) shows_none)
 
   new_row : row_below new c ≡ token_then 0x7B (among_properties front now back)
-  unfolding respliced
   new_row =
-      respliced_row spaced new c respliced around_it.front (more property now none) back around_it.before m_shown around_it.behind
+      shown_put spaced new c row_put around_it.before m_shown around_it.behind
       ∙ ap (λ t. followed_by t (more property now back)) inside.is
 
   changed : PropertyChanged front was now back path (ordered_tree spaced 0) (ordered_tree new 0)
-  changed =
-      let first : top_at spaced c ≡ object_of front was back = ap (λ (w : Content). record { content = w; below = row_below spaced c }) object_spaced ∙ ap (λ (t : OrderedTree). record { content = object; below = t }) old_row in
-      let last : top_at new c ≡ object_of front now back = ap (λ (w : Content). record { content = w; below = row_below new c }) (put.content c ∙ object_spaced) ∙ ap (λ (t : OrderedTree). record { content = object; below = t }) new_row in
-      subst (λ (t : Top). DocumentChanged t (object_of front now back) path (ordered_tree spaced 0) (ordered_tree new 0)) first
-      (subst (λ (t : Top). DocumentChanged (top_at spaced c) t path (ordered_tree spaced 0) (ordered_tree new 0)) last container_changed)
+  changed = document_put spaced new c row_put object_spaced old_row new_row path at_spaced
 
   -- the new property is whole
   fits : FitsLayout o layout

@@ -15,9 +15,9 @@ use Rattle.jsonc_sound.specs.TriviaChanges.{leaves_then}
 use Rattle.jsonc_insert.specs.Trimmed.{blanks, first_gone, inside, last_blanks, last_gone, last_gone_from, last_spaces, spaces, trimmed, without}
 use Rattle.jsonc_insert.proofs.TrimmedRows.{back_blank, blanks_within, first_high, first_within, front_blank, last_behind, last_high, last_low, shorter_at, runs_apart}
 use Rattle.jsonc_edit.proofs.LeafKinds.{newline_is}
-use Rattle.jsonc_edit.proofs.Standing.{standing}
+use Rattle.jsonc_edit.proofs.Standing.{standing, standing_then}
 use Rattle.jsonc_insert.specs.elements.Coming.{FirstLinesLeave, none_first, leave_first, LastLinesLeave, none_last, leave_last, BlankLinesLeave}
-use Rattle.jsonc_insert.proofs.lemmas.elements.RowsOfTrees.{AllAre, blank_line, blanks_alone, blanks_are, blanks_row, line_first, standing_then}
+use Rattle.jsonc_insert.proofs.lemmas.elements.RowsOfTrees.{AllAre, blank_line, blanks_alone, blanks_are, blanks_row, line_first}
 
 -- a row without a stretch inside its ends
 strip : (x y : ℕ) (inner : List ℕ) (f t : ℕ) → 1 ≤ f → f ≤ t → t ≤ 1 + length inner → take f (x ∷ (inner ++ y ∷ [])) ++ drop t (x ∷ (inner ++ y ∷ [])) ≡ x ∷ ((take (f - 1) inner ++ drop (t - 1) inner) ++ y ∷ [])

@@ -1,120 +1,40 @@
--- A sound document in which the row of an array or object has become another that may stand there.
-use Rattle.std.proofs.Common.{◌≡◌, ◌∙◌, ℕ, true, false, List, ◌++◌, Option, Some, None, IsTrue, refl, ap, subst, append_assoc, append-nil}
+-- The marks of a document in which the row of an array or object has got an element.
+use Rattle.std.proofs.Common.{◌≡◌, ◌∙◌, ℕ, List, ◌++◌, refl, ap, append_assoc, append-nil}
 use Rattle.jsonc_text.specs.Options.{Options}
-use Rattle.jsonc_text.specs.Grammar.{IsDocument}
-use Rattle.jsonc_text.specs.Plain.{Plain}
-use Rattle.jsonc_text.specs.Text.{next}
-use Rattle.jsonc_tree.specs.OrderedTree.{OrderedTree, Top, none, followed_by, leaves}
-use Rattle.jsonc_tree.specs.Values.{DocumentValueOf}
-use Rattle.jsonc_tree.proofs.OrderedTrees.{leaves-followed_by}
-use Rattle.jsonc_sound.specs.Lines.{LinesEndLoosely}
-use Rattle.jsonc_sound.specs.Shape.{printed_text, token_then}
-use Rattle.jsonc_sound.proofs.ShapeValues.{document_printed}
-use Rattle.jsonc_sound.specs.Adjacent.{follower, LeavesEnd, last_printed}
-use Rattle.jsonc_sound.specs.Alone.{RowAlone, may_come}
+use Rattle.jsonc_tree.specs.OrderedTree.{OrderedTree, Top, none}
+use Rattle.jsonc_sound.specs.Shape.{token_then}
 use Rattle.jsonc_sound.specs.Marks.{Mark, marks}
 use Rattle.jsonc_sound.specs.MarkChanges.{marks_under}
-use Rattle.jsonc_sound.specs.Rows as rows
 use Rattle.jsonc_sound.specs.Rows.{RowKind, of_values, of_properties, closing}
-use Rattle.jsonc_sound.specs.SoundTrees.{SoundTree}
 use Rattle.jsonc_sound.specs.TreeChanges.{DocumentChanged}
-use Rattle.jsonc_sound.proofs.NodesAlone.{value_alone, value_leaves}
 use Rattle.jsonc_sound.proofs.ReplacedStretches.{values_marks}
-use Rattle.jsonc_sound.proofs.HeldValues.{document_held}
-use Rattle.jsonc_sound.proofs.Leaves.{parted_leaves, last_serves}
-use Rattle.jsonc_sound.proofs.LinesLeft.{row_lines}
-use Rattle.jsonc_sound.proofs.LooseChanges.{joined_loosely, parted_loosely}
-use Rattle.jsonc_sound.proofs.RowParts.{row_comes}
-use Rattle.jsonc_sound.proofs.SeamRows.{container_leaves, row_of}
-use Rattle.jsonc_sound.proofs.SeamStretches.{parted_row}
-use Rattle.jsonc_sound.proofs.SoundTrees.{kept_where_none_meet}
-use Rattle.jsonc_sound.proofs.Spaces.{last_of, serves_unless, stretch_no_word}
-use Rattle.jsonc_edit.proofs.OneValue.{document_once}
 use Rattle.jsonc_edit.specs.multiline.Laws.{bracketed}
 use Rattle.jsonc_insert.specs.elements.Coming.{ElementInserted, comes}
 use Rattle.jsonc_insert.specs.elements.Laws.{GainsMarks}
-use Rattle.jsonc_edit.proofs.lemmas.multiline.SameDocument.{no_bracket}
-use Rattle.jsonc_edit.proofs.SoundValues.{some_value}
 use Rattle.jsonc_insert.proofs.lemmas.elements.Marked.{marks_then, new_marks}
-use Rattle.jsonc_insert.proofs.lemmas.elements.Rows.{IsRow}
 
 -- the marks of a row with its brackets
 bracketed_marks : (kind : RowKind) (row : OrderedTree) → marks_under (bracketed kind row) ≡ marks row
 bracketed_marks of_values row = marks_then row (token_then (closing of_values) none) ∙ append-nil (marks row)
 bracketed_marks of_properties row = marks_then row (token_then (closing of_properties) none) ∙ append-nil (marks row)
 
-module _ (o : Options) (kind : RowKind) where
-  abbrev bracket : OrderedTree
-  bracket = token_then (closing kind) none
-
-  -- the row was one
-  pub row_in_document : {now : Top} {path : List ℕ} {t u : OrderedTree} (row : OrderedTree) → SoundTree o t → DocumentChanged (bracketed kind row) now path t u → IsRow o kind row
-  row_in_document row sound changed =
-      let full : OrderedTree = followed_by row bracket in
-      let held = document_held o changed sound.shaped in
-      let alone : RowAlone o kind rows.nothing_yet full = row_of o kind full (value_alone o held.1) in
-      let parts = parted_row o kind row alone in
-      let ends : LeavesEnd o (leaves full) (next held.0) = (subst (λ a. LeavesEnd o a (next held.0)) (container_leaves kind full) (value_leaves o held.1)).1 in
-      let first = (parted_leaves o (leaves row) (leaves bracket) (next held.0) (subst (λ ls. LeavesEnd o ls (next held.0)) (leaves-followed_by row bracket) ends)).0 in
-      let n : Option ℕ = follower (leaves bracket) (next held.0) in
-      let last : LeavesEnd o (leaves row) None = last_serves o (leaves row) n None first (serves_unless o (last_printed (leaves row)) n None (stretch_no_word o parts.1) (λ b. refl) (last_of o (leaves row) n first)) in
-      let loose = parted_loosely true false row bracket (row_lines kind full changed sound.lines) in
-      record { to = parts.0; stretch = parts.1; may = may_close kind parts.0 (row_comes o kind parts.2); lines = loose.0; ends = last }
+module _ (o : Options) (kind : RowKind) (row new : OrderedTree) (path : List ℕ) (t u : OrderedTree) (changed : DocumentChanged (bracketed kind row) (bracketed kind new) path t u) where
+  -- the marks of the element have come
+  pub marks_come : {top : Top} {n : ℕ} (kept : OrderedTree) → ElementInserted o top n kept new → marks row ≡ marks kept → (ms : List Mark) → marks_under top ≡ ms → GainsMarks ms n kept t u
+  marks_come {top} kept e was ms literals = by e refl was
     where
-      may_close : (k : RowKind) (last : rows.Last) → IsTrue (may_come o last (token_then (closing k) none)) → IsTrue (rows.may_end o last)
-      may_close of_values last h = h
-      may_close of_properties last h = h
-
-  module _ (row new : OrderedTree) (path : List ℕ) (t u : OrderedTree) (changed : DocumentChanged (bracketed kind row) (bracketed kind new) path t u) where
-    pub sound_with_row : SoundTree o t → IsRow o kind new → SoundTree o u
-    sound_with_row sound r =
-        let lines : LinesEndLoosely true false (followed_by new bracket) = joined_loosely true false new bracket r.lines (λ h. cc, tt, tt) in
-        kept_where_none_meet o t sound kind none row new bracket path u changed r.to r.stretch (may_come_here kind r.to r.may) lines r.ends refl (no_bracket new (closing kind))
-      where
-        may_come_here : (k : RowKind) (last : rows.Last) → IsTrue (rows.may_end o last) → IsTrue (may_come o last (token_then (closing k) none))
-        may_come_here of_values last h = h
-        may_come_here of_properties last h = h
-
-    -- both texts are documents
-    pub record Texts (R : Plain → Plain → Type 0) : Type 0 where
-      pub before : Plain
-      pub after : Plain
-      pub old_text : IsDocument o (printed_text t) (Some before)
-      pub new_text : IsDocument o (printed_text u) (Some after)
-      pub related : R before after
-
-    pub texts : (R : Plain → Plain → Type 0) → SoundTree o t → SoundTree o u → ((x : Plain) → DocumentValueOf o t (Some x) → (y : Plain) × DocumentValueOf o u (Some y) × R x y) → Texts R
-    texts R sound still f = let was = document_printed o t sound.shaped sound.lines in by was.0 was.1 was.2
-      where
-        by : (w : Option Plain) → IsDocument o (printed_text t) w → DocumentValueOf o t w → Texts R
-        by None text h = absurd (some_value o changed h)
-        by (Some x) text h =
-            let is = document_printed o u still.shaped still.lines in
-            let y = f x h in
-            record {
-              before = x;
-              after = y.0;
-              old_text = text;
-              new_text = subst (λ w. IsDocument o (printed_text u) w) (document_once o u is.0 (Some y.0) is.2 y.1) is.1;
-              related = y.2;
-            }
-
-    -- the marks of the element have come
-    pub marks_come : {top : Top} {n : ℕ} (kept : OrderedTree) → ElementInserted o top n kept new → marks row ≡ marks kept → (ms : List Mark) → marks_under top ≡ ms → GainsMarks ms n kept t u
-    marks_come {top} kept e was ms literals = by e refl was
-      where
-        by : {n : ℕ} {k now : OrderedTree} → ElementInserted o top n k now → marks new ≡ marks now → marks row ≡ marks k → GainsMarks ms n k t u
-        by (comes front back led behind gap c takes none_comes w g q alone) is had =
-            let d = values_marks t (bracketed kind row) (bracketed kind new) path u changed in
-            record {
-              front = front;
-              back = back;
-              parts = refl;
-              count = refl;
-              before = d.front;
-              behind = d.back;
-              was = d.before ∙ ap (λ l. d.front ++ (l ++ d.back)) (bracketed_marks kind row ∙ had ∙ marks_then front back) ∙ ap (λ l. d.front ++ l) (append_assoc (marks front) (marks back) d.back);
-              is = d.after
-                  ∙ ap (λ l. d.front ++ (l ++ d.back)) (bracketed_marks kind new ∙ is ∙ new_marks o top front back led behind gap c w g ∙ ap (λ l. marks front ++ (l ++ marks back)) literals)
-                  ∙ ap (λ l. d.front ++ l) (append_assoc (marks front) (ms ++ marks back) d.back ∙ ap (λ l. marks front ++ l) (append_assoc ms (marks back) d.back));
-            }
+      by : {n : ℕ} {k now : OrderedTree} → ElementInserted o top n k now → marks new ≡ marks now → marks row ≡ marks k → GainsMarks ms n k t u
+      by (comes front back led behind gap c takes none_comes w g q alone) is had =
+          let d = values_marks t (bracketed kind row) (bracketed kind new) path u changed in
+          record {
+            front = front;
+            back = back;
+            parts = refl;
+            count = refl;
+            before = d.front;
+            behind = d.back;
+            was = d.before ∙ ap (λ l. d.front ++ (l ++ d.back)) (bracketed_marks kind row ∙ had ∙ marks_then front back) ∙ ap (λ l. d.front ++ l) (append_assoc (marks front) (marks back) d.back);
+            is = d.after
+                ∙ ap (λ l. d.front ++ (l ++ d.back)) (bracketed_marks kind new ∙ is ∙ new_marks o top front back led behind gap c w g ∙ ap (λ l. marks front ++ (l ++ marks back)) literals)
+                ∙ ap (λ l. d.front ++ l) (append_assoc (marks front) (ms ++ marks back) d.back ∙ ap (λ l. marks front ++ l) (append_assoc ms (marks back) d.back));
+          }

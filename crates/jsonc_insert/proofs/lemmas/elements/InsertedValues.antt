@@ -22,7 +22,8 @@ use Rattle.jsonc_edit.specs.Writing.{FitsLayout, IsIndent}
 use Rattle.jsonc_edit.specs.multiline.Laws.{bracketed}
 use Rattle.jsonc_edit.specs.multiline.Reflows.{has_newline}
 use Rattle.jsonc_edit.proofs.lemmas.multiline.OnLines.{standing_newline}
-use Rattle.jsonc_edit.proofs.Standing.{standing}
+use Rattle.jsonc_edit.proofs.Standing.{brackets_stand, standing}
+use Rattle.jsonc_edit.proofs.lemmas.multiline.BracketedRows.{row_given, BracketedRow}
 use Rattle.jsonc_insert.specs.Inserted.{plan_of, put_by, ElementPut}
 use Rattle.jsonc_insert.specs.Planned.{elements, has_brackets, planned}
 use Rattle.jsonc_insert.specs.Settings.{is_spread, layout_inside, on_several_lines, outer_indent}
@@ -35,15 +36,15 @@ use Rattle.jsonc_insert.proofs.SamePlans.{planned_alike, several_alike}
 use Rattle.jsonc_insert.proofs.TrimmedRows.{has_two, trimmed_all, trimmed_brackets, trimmed_elements}
 use Rattle.jsonc_insert.specs.elements.Coming.{ElementInserted}
 use Rattle.jsonc_insert.specs.elements.Laws.{ElementInsertedAt, ElementsInsertedAt}
-use Rattle.jsonc_insert.proofs.lemmas.elements.Containers.{ContainerRow}
 use Rattle.jsonc_insert.proofs.lemmas.elements.Containers as containers
 use Rattle.jsonc_insert.proofs.lemmas.elements.Blanks as blanks
 use Rattle.jsonc_insert.proofs.lemmas.elements.KeptTrees.{layout_fits, outer_fits}
 use Rattle.jsonc_insert.proofs.lemmas.elements.PlannedRows as filling
 use Rattle.jsonc_insert.proofs.lemmas.elements.PlannedRows.{Filled}
 use Rattle.jsonc_insert.proofs.lemmas.elements.Plans as plans
-use Rattle.jsonc_insert.proofs.lemmas.elements.Rows.{IsRow, kept_row}
-use Rattle.jsonc_insert.proofs.lemmas.elements.RowsOfTrees.{standing_count, standing_then, token_first}
+use Rattle.jsonc_edit.proofs.lemmas.multiline.SoundRows.{IsRow}
+use Rattle.jsonc_insert.proofs.lemmas.elements.Rows.{kept_row}
+use Rattle.jsonc_insert.proofs.lemmas.elements.RowsOfTrees.{standing_count}
 
 module _ (o : Options) (old new : List Node) (path : List ℕ) (c i : ℕ) (v : Plain) (m : ℕ) (tree : IsTree old) (sound : SoundTree o (ordered_tree old 0)) (at : IsAt old path c) (is : content_at old c ≡ content.array) (put : ElementPut old new c i v m) where
   abbrev kids : List ℕ
@@ -64,7 +65,7 @@ module _ (o : Options) (old new : List Node) (path : List ℕ) (c i : ℕ) (v : 
   two : 2 ≤ length kids
   two = has_two old kids whole
 
-  a : ContainerRow o of_values old c
+  a : BracketedRow old c of_values
   a = containers.container_row o of_values old path c tree sound at is
 
   abbrev x : ℕ
@@ -84,7 +85,7 @@ module _ (o : Options) (old new : List Node) (path : List ℕ) (c i : ℕ) (v : 
   kept_is = ap (trimmed old) a.children ∙ l.is
 
   row_now : IsRow o of_values (standing old left)
-  row_now = kept_row o of_values l.leave a.row
+  row_now = kept_row o of_values l.leave (containers.is_row o of_values old path c tree sound at is a)
 
   b : IsRowFor old old c (trimmed old kids)
   b = element_row old tree c whole
@@ -99,15 +100,13 @@ module _ (o : Options) (old new : List Node) (path : List ℕ) (c i : ℕ) (v : 
   layout = layout_inside kept c
 
   kept_stands : standing old (trimmed old kids) ≡ token_then 0x5B (followed_by (standing old left) (token_then 0x5D none))
-  kept_stands =
-      ap (standing old) kept_is ∙ token_first old tree x 0x5B (standing old (left ++ y ∷ [])) a.opens
-      ∙ ap (token_then 0x5B) (standing_then old left (y ∷ []) ∙ ap (followed_by (standing old left)) (token_first old tree y 0x5D none a.closes))
+  kept_stands = ap (standing old) kept_is ∙ brackets_stand old tree x y 0x5B 0x5D left a.opens a.closes
 
   fits_layout : FitsLayout o layout
-  fits_layout = layout_fits o of_values old path c tree sound at is old (trimmed old kids) b kept put.made.has (standing old a.inner) a.top (standing old left) kept_stands row_now
+  fits_layout = layout_fits o of_values old path c tree sound at is old (trimmed old kids) b kept put.made.has (standing old left) kept_stands row_now
 
   outer_indents : IsIndent (outer_indent kept c)
-  outer_indents = outer_fits o of_values old path c tree sound at is old (trimmed old kids) b kept put.made.has (standing old a.inner) a.top (standing old left) kept_stands row_now
+  outer_indents = outer_fits o of_values old path c tree sound at is old (trimmed old kids) b kept put.made.has (standing old left) kept_stands row_now
 
   abbrev several : Bool
   several = on_several_lines old (trimmed old kids) None v
@@ -145,7 +144,7 @@ module _ (o : Options) (old new : List Node) (path : List ℕ) (c i : ℕ) (v : 
   same_count : length (elements old left) ≡ length (elements old a.inner)
   same_count =
       sym (plans.count_row o of_values old tree x y left a.opens a.closes row_now) ∙ ap (λ r. length (elements old r)) (sym kept_is) ∙ ap length (trimmed_elements old kids two)
-      ∙ ap (λ r. length (elements old r)) a.children ∙ plans.count_row o of_values old tree x y a.inner a.opens a.closes a.row
+      ∙ ap (λ r. length (elements old r)) a.children ∙ plans.count_row o of_values old tree x y a.inner a.opens a.closes (containers.is_row o of_values old path c tree sound at is a)
 
   kept_old : All (λ n. n < length old) (x ∷ (left ++ y ∷ []))
   kept_old = subst (All (λ n. n < length old)) kept_is (trimmed_all (λ n. n < length old) old kids (All-from_get_or (λ n. n < length old) kids 0 (λ k h. tree.in_tree c k h)))
@@ -170,7 +169,8 @@ module _ (o : Options) (old new : List Node) (path : List ℕ) (c i : ℕ) (v : 
   row_stands = filling.row_stands o of_values old ready tree put.prepared x y left a.opens a.closes row_now layout (outer_indent kept c) several plan fits (laid layout v) m put.row filled kept_old
 
   changed : DocumentChanged (bracketed of_values (standing old a.inner)) (bracketed of_values new_row) path (ordered_tree old 0) (ordered_tree new 0)
-  changed = containers.row_given of_values old ready new path c put.row (standing old a.inner) new_row tree put.prepared there is a.top at put.tree put.join put.put row_stands
+  changed =
+      row_given old tree c there a new (record { ready = ready; from = 0; to = length kids; put = put.row; tree = tree; there = there; prepared = put.prepared; join = put.join; spliced = put.put; after = put.tree }) refl refl new_row row_stands path at
 
   -- where a line ends in the row, the element has one of its own
   either_left : (p q : Bool) → p ≡ true → (p || q) ≡ true

@@ -17,7 +17,6 @@ use Rattle.jsonc_sound.specs.Rows.{RowKind, closing, holder, opening}
 use Rattle.jsonc_sound.specs.Shape.{token_then, DocumentShaped}
 use Rattle.jsonc_sound.specs.SoundTrees.{SoundTree}
 use Rattle.jsonc_sound.specs.TreeChanges.{DocumentChanged}
-use Rattle.jsonc_edit.specs.Changes.{top_at}
 use Rattle.jsonc_edit.specs.Paths.{IsAt}
 use Rattle.jsonc_edit.specs.Writing.{FitsLayout, IsIndent}
 use Rattle.jsonc_edit.specs.multiline.Laws.{bracketed}
@@ -26,6 +25,7 @@ use Rattle.jsonc_edit.proofs.FittingIndents.{indents_fit, indent_joined}
 use Rattle.jsonc_edit.proofs.FittingNodes.{children_over}
 use Rattle.jsonc_edit.proofs.Uniqueness.{over_at}
 use Rattle.jsonc_edit.proofs.Standing.{standing}
+use Rattle.jsonc_edit.proofs.lemmas.multiline.BracketedRows.{row_given, BracketedRow}
 use Rattle.jsonc_edit.proofs.PathsKept.{at_still}
 use Rattle.jsonc_insert.specs.Inserted.{BecomesRow}
 use Rattle.jsonc_insert.specs.Laws.{KeepsNodesBut}
@@ -35,8 +35,7 @@ use Rattle.jsonc_insert.specs.members.Opened.{IsOfRow}
 use Rattle.jsonc_insert.proofs.Additions.{parent_out, whole_row}
 use Rattle.jsonc_insert.proofs.RowReplaced.{may_join, IsRowFor}
 use Rattle.jsonc_insert.proofs.lemmas.elements.Containers as containers
-use Rattle.jsonc_insert.proofs.lemmas.elements.Documents.{sound_with_row}
-use Rattle.jsonc_insert.proofs.lemmas.elements.Rows.{IsRow}
+use Rattle.jsonc_edit.proofs.lemmas.multiline.SoundRows.{sound_with_row, IsRow}
 
 -- two spaces are an indent, and so is one indent after another
 pub two_spaces : IsIndent (0x20 ∷ 0x20 ∷ [])
@@ -73,9 +72,12 @@ module _ (o : Options) (ns : List Node) (tree : IsTree ns) (shaped : DocumentSha
 
 -- the nodes in which c has the row that something comes into
 module _ (o : Options) (kind : RowKind) (old : List Node) (path : List ℕ) (c : ℕ) (tree : IsTree old) (sound : SoundTree o (ordered_tree old 0)) (at : IsAt old path c) (is : content_at old c ≡ holder kind) (lined : List Node) (was : List ℕ) (b : IsRowFor old lined c was) (kept : List Node) (has : BecomesRow lined kept c was)
-    (top : OrderedTree) (was_top : top_at old c ≡ bracketed kind top) (row : OrderedTree) (stands : standing lined was ≡ token_then (opening kind) (followed_by row (token_then (closing kind) none))) (fits : IsRow o kind row) where
+    (row : OrderedTree) (stands : standing lined was ≡ token_then (opening kind) (followed_by row (token_then (closing kind) none))) (fits : IsRow o kind row) where
   there : c < length old
   there = containers.there o kind old path c tree sound at is
+
+  a : BracketedRow old c kind
+  a = containers.container_row o kind old path c tree sound at is
 
   same : children_at lined c ≡ children_at old c
   same = b.prepared.keeps.children c there
@@ -83,11 +85,13 @@ module _ (o : Options) (kind : RowKind) (old : List Node) (path : List ℕ) (c :
   joins : CanJoin lined c 0 (length (children_at old c)) was
   joins = may_join old lined tree b.prepared c there was b.once b.from
 
-  changed : DocumentChanged (bracketed kind top) (bracketed kind row) path (ordered_tree old 0) (ordered_tree kept 0)
-  changed = containers.row_given kind old lined kept path c was top row tree b.prepared there is was_top at has.tree joins (subst (λ k. Splices lined kept c 0 k was) (ap length same) has.put) stands
+  changed : DocumentChanged (bracketed kind (standing old a.inner)) (bracketed kind row) path (ordered_tree old 0) (ordered_tree kept 0)
+  changed =
+      let put : Splices lined kept c 0 (length (children_at old c)) was = subst (λ k. Splices lined kept c 0 k was) (ap length same) has.put in
+      row_given old tree c there a kept (record { ready = lined; from = 0; to = length (children_at old c); put = was; tree = tree; there = there; prepared = b.prepared; join = joins; spliced = put; after = has.tree }) refl refl row stands path at
 
   pub sound_kept : SoundTree o (ordered_tree kept 0)
-  sound_kept = sound_with_row o kind top row path (ordered_tree old 0) (ordered_tree kept 0) changed sound fits
+  sound_kept = sound_with_row o kind (standing old a.inner) row path (ordered_tree old 0) (ordered_tree kept 0) changed sound fits
 
   row_kept : children_at kept c ≡ was
   row_kept = has.put.children ∙ whole_row (children_at lined c) was

@@ -28,10 +28,11 @@ use Rattle.jsonc_edit.specs.Writing.{IsWritable}
 use Rattle.jsonc_edit.proofs.Writable.{property_may_stand}
 use Rattle.jsonc_edit.specs.multiline.Laws.{bracketed}
 use Rattle.jsonc_insert.specs.elements.Members.{InsertsMemberAt, InsertsMember, IsMemberInserted, KeepsLeavesAround, KeepsNodesWithin, member_count, MemberInserted, PropertyInsertedAt}
-use Rattle.jsonc_insert.proofs.lemmas.elements.Documents.{Texts, marks_come, row_in_document, sound_with_row, texts}
+use Rattle.jsonc_edit.proofs.lemmas.multiline.SoundRows.{row_in_document, sound_with_row, texts, IsRow, Texts}
+use Rattle.jsonc_insert.proofs.lemmas.elements.Documents.{marks_come}
 use Rattle.jsonc_insert.proofs.lemmas.elements.Marked.{all_stay, kept_marks}
 use Rattle.jsonc_insert.proofs.lemmas.elements.Members.{kept_members, members_come, members_counted}
-use Rattle.jsonc_insert.proofs.lemmas.elements.Rows.{IsPart, IsRow, kept_row, new_row}
+use Rattle.jsonc_insert.proofs.lemmas.elements.Rows.{IsPart, kept_row, new_row}
 use Rattle.jsonc_insert.proofs.lemmas.elements.SpreadObjects.{spread_marks, spread_members, spread_row, spread_solid}
 
 abbrev bracket : OrderedTree

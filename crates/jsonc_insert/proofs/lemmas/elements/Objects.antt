@@ -17,8 +17,10 @@ use Rattle.jsonc_edit.specs.Paths.{IsAt}
 use Rattle.jsonc_edit.specs.Writing.{FitsLayout, IsIndent}
 use Rattle.jsonc_edit.specs.multiline.Laws.{bracketed}
 use Rattle.jsonc_edit.specs.multiline.Reflows.{SpreadsOut}
-use Rattle.jsonc_edit.specs.multiline.Slots.{Slot, stays, AreFilled, row_in}
-use Rattle.jsonc_edit.proofs.Standing.{standing}
+use Rattle.jsonc_edit.specs.multiline.Slots.{Slot, row_in}
+use Rattle.jsonc_edit.proofs.Standing.{brackets_stand, standing}
+use Rattle.jsonc_edit.proofs.lemmas.multiline.BracketedRows.{last_there, open_there, row_given, BracketedRow}
+use Rattle.jsonc_edit.proofs.lemmas.multiline.FilledRows.{filled_stands, filled_there, AllFit}
 use Rattle.jsonc_insert.specs.Inserted.{plan_of, put_by}
 use Rattle.jsonc_insert.specs.Planned.{elements, has_brackets, planned}
 use Rattle.jsonc_insert.specs.Settings.{layout_inside, outer_indent}
@@ -27,23 +29,24 @@ use Rattle.jsonc_insert.specs.declared.plan.Plan.{Plan}
 use Rattle.jsonc_insert.specs.members.Inserted.{PropertyPut}
 use Rattle.jsonc_insert.specs.members.Laws.{FitsAsTold}
 use Rattle.jsonc_insert.proofs.Additions.{whole_row}
-use Rattle.jsonc_insert.proofs.RowReplaced.{both, IsRowFor}
+use Rattle.jsonc_insert.proofs.RowReplaced.{IsRowFor}
 use Rattle.jsonc_insert.proofs.SamePlans.{planned_alike}
 use Rattle.jsonc_insert.proofs.TrimmedRows.{has_two, trimmed_all, trimmed_brackets, trimmed_elements, trimmed_once}
 use Rattle.jsonc_insert.specs.elements.Coming.{ElementInserted}
 use Rattle.jsonc_insert.specs.elements.Members.{PropertyInsertedAt}
 use Rattle.jsonc_insert.proofs.lemmas.elements.Blanks as blanks
 use Rattle.jsonc_insert.proofs.lemmas.elements.Containers as containers
-use Rattle.jsonc_insert.proofs.lemmas.elements.Containers.{ContainerRow}
 use Rattle.jsonc_insert.proofs.lemmas.elements.PlannedRows as filling
 use Rattle.jsonc_insert.proofs.lemmas.elements.PlannedRows.{Filled}
 use Rattle.jsonc_insert.proofs.lemmas.elements.Opened as opened
-use Rattle.jsonc_insert.proofs.lemmas.elements.Opened.{filled_stands, filled_there, one_filled, Parted, parted_filled, spread_count}
+use Rattle.jsonc_insert.proofs.lemmas.elements.Opened.{spread_count}
 use Rattle.jsonc_insert.proofs.lemmas.elements.Plans as plans
 use Rattle.jsonc_insert.proofs.lemmas.elements.KeptTrees as kept_trees
-use Rattle.jsonc_insert.proofs.lemmas.elements.Rows.{IsRow, kept_row}
+use Rattle.jsonc_edit.proofs.lemmas.multiline.SoundRows.{IsRow}
+use Rattle.jsonc_insert.proofs.lemmas.elements.Rows.{kept_row}
 use Rattle.jsonc_insert.proofs.lemmas.elements.SpreadObjects.{spread_row}
-use Rattle.jsonc_insert.proofs.lemmas.elements.RowsOfTrees.{standing_count, standing_then, token_first}
+use Rattle.jsonc_insert.proofs.lemmas.elements.RowsOfTrees.{standing_count}
+use Rattle.jsonc_insert.proofs.lemmas.members.Changing.{property_put}
 use Rattle.jsonc_insert.proofs.lemmas.members.RowReplaced.{row_before}
 
 module _ (o : Options) (old new : List Node) (path : List ℕ) (c i : ℕ) (name : List ℕ) (v : Plain) (m : ℕ) (tree : IsTree old) (sound : SoundTree o (ordered_tree old 0)) (at : IsAt old path c) (is : content_at old c ≡ object) (f : PropertyPut old new c i name v m) where
@@ -53,7 +56,7 @@ module _ (o : Options) (old new : List Node) (path : List ℕ) (c i : ℕ) (name
   there : c < length old
   there = containers.there o of_properties old path c tree sound at is
 
-  a : ContainerRow o of_properties old c
+  a : BracketedRow old c of_properties
   a = containers.container_row o of_properties old path c tree sound at is
 
   abbrev x : ℕ
@@ -65,38 +68,27 @@ module _ (o : Options) (old new : List Node) (path : List ℕ) (c i : ℕ) (name
   abbrev inside : List Slot
   inside = opened.inside o of_properties old c tree sound.shaped over a
 
-  fills : AreFilled old f.lined (stays x ∷ (inside ++ stays y ∷ [])) f.before.lines
-  fills = subst (λ s. AreFilled old f.lined s f.before.lines) (opened.opened_is o of_properties old c tree sound.shaped over a) f.before.opens.filled
-
-  first_part : Parted old f.lined (stays x ∷ []) (inside ++ stays y ∷ []) f.before.lines
-  first_part = parted_filled old f.lined (stays x ∷ []) (inside ++ stays y ∷ []) fills
-
-  last_part : Parted old f.lined inside (stays y ∷ []) first_part.back
-  last_part = parted_filled old f.lined inside (stays y ∷ []) first_part.fills_rest
-
   -- what stands between the brackets of the row on several lines
   abbrev inner : List ℕ
-  inner = last_part.front
+  inner = opened.lined_inner o of_properties old c tree sound.shaped over a f.lined f.before.lines f.before.opens.filled
 
   lines_are : f.before.lines ≡ x ∷ (inner ++ y ∷ [])
-  lines_are =
-      first_part.is ∙ ap (λ (l : List ℕ). l ++ first_part.back) (one_filled old f.lined x first_part.fills)
-      ∙ ap (λ (l : List ℕ). x ∷ l) (last_part.is ∙ ap (λ (l : List ℕ). inner ++ l) (one_filled old f.lined y last_part.fills_rest))
+  lines_are = opened.lines_are o of_properties old c tree sound.shaped over a f.lined f.before.lines f.before.opens.filled
 
   inner_stands : standing f.lined inner ≡ row_in old inside
-  inner_stands = filled_stands old f.lined tree f.before.opens.prepared last_part.fills (opened.inside_fit o of_properties old c tree sound.shaped over a)
+  inner_stands = filled_stands old f.lined tree f.before.opens.prepared (opened.inner_fills o of_properties old c tree sound.shaped over a f.lined f.before.lines f.before.opens.filled) (opened.inside_fit o of_properties old c tree sound.shaped over a)
 
   spread_row_now : IsRow o of_properties (standing f.lined inner)
-  spread_row_now = subst (IsRow o of_properties) (sym inner_stands) (spread_row o of_properties (opened.spreads o of_properties old c tree sound.shaped over a) a.row)
+  spread_row_now = subst (IsRow o of_properties) (sym inner_stands) (spread_row o of_properties (opened.spreads o of_properties old c tree sound.shaped over a) (containers.is_row o of_properties old path c tree sound at is a))
 
   opens : content_at f.lined x ≡ token (opening of_properties)
-  opens = f.before.opens.prepared.keeps.content x (opened.x_there o of_properties old c tree sound.shaped over a) ∙ a.opens
+  opens = f.before.opens.prepared.keeps.content x (open_there old tree c there a) ∙ a.opens
 
   closes : content_at f.lined y ≡ token (closing of_properties)
-  closes = f.before.opens.prepared.keeps.content y (opened.y_there o of_properties old c tree sound.shaped over a) ∙ a.closes
+  closes = f.before.opens.prepared.keeps.content y (last_there old tree c there a) ∙ a.closes
 
   lines_there : All (λ n. n < length f.lined) f.before.lines
-  lines_there = filled_there old f.lined tree f.before.opens.prepared fills (opened.opened_fit o of_properties old c tree sound.shaped over a)
+  lines_there = filled_there old f.lined tree f.before.opens.prepared f.before.opens.filled (subst (AllFit old) (sym (opened.opened_is o of_properties old c tree sound.shaped over a)) (opened.opened_fit o of_properties old c tree sound.shaped over a))
 
   -- and without blank lines
   l : blanks.Left f.lined f.before.opens.prepared.tree x y inner
@@ -142,16 +134,13 @@ module _ (o : Options) (old new : List Node) (path : List ℕ) (c i : ℕ) (name
   outer = outer_indent kept c
 
   kept_stands : standing f.lined f.was ≡ token_then (opening of_properties) (followed_by (standing f.lined left) (token_then (closing of_properties) none))
-  kept_stands =
-      let tree_now : IsTree f.lined = f.before.opens.prepared.tree in
-      ap (standing f.lined) was_is ∙ token_first f.lined tree_now x (opening of_properties) (standing f.lined (left ++ y ∷ [])) opens
-      ∙ ap (token_then (opening of_properties)) (standing_then f.lined left (y ∷ []) ∙ ap (followed_by (standing f.lined left)) (token_first f.lined tree_now y (closing of_properties) none closes))
+  kept_stands = ap (standing f.lined) was_is ∙ brackets_stand f.lined f.before.opens.prepared.tree x y (opening of_properties) (closing of_properties) left opens closes
 
   pub fits_layout : FitsLayout o layout
-  fits_layout = kept_trees.layout_fits o of_properties old path c tree sound at is f.lined f.was b kept f.made.has (standing old a.inner) a.top (standing f.lined left) kept_stands row_now
+  fits_layout = kept_trees.layout_fits o of_properties old path c tree sound at is f.lined f.was b kept f.made.has (standing f.lined left) kept_stands row_now
 
   pub outer_fits : IsIndent outer
-  outer_fits = kept_trees.outer_fits o of_properties old path c tree sound at is f.lined f.was b kept f.made.has (standing old a.inner) a.top (standing f.lined left) kept_stands row_now
+  outer_fits = kept_trees.outer_fits o of_properties old path c tree sound at is f.lined f.was b kept f.made.has (standing f.lined left) kept_stands row_now
 
   abbrev plan : Plan
   plan = planned f.lined true layout.trailing_commas (x ∷ (left ++ y ∷ [])) i
@@ -198,7 +187,7 @@ module _ (o : Options) (old new : List Node) (path : List ℕ) (c i : ℕ) (name
       (min i (element_count (standing old a.inner))) (front_count ∙ ap (min i) same_count)
 
   changed : DocumentChanged (bracketed of_properties (standing old a.inner)) (bracketed of_properties new_row) path (ordered_tree old 0) (ordered_tree new 0)
-  changed = containers.row_given of_properties old f.ready new path c f.row (standing old a.inner) new_row tree (both old f.lined tree c f.was b f.ready there f.prepared) there is a.top at f.tree f.join f.put row_stands
+  changed = row_given old tree c there a new (property_put old new c i name v m tree there f) refl refl new_row row_stands path at
 
   pub property_comes_at : PropertyInsertedAt o path i name v (ordered_tree old 0) (ordered_tree new 0)
   property_comes_at = record {

@@ -23,10 +23,9 @@ use Rattle.jsonc_edit.specs.Put.{Extends}
 use Rattle.jsonc_edit.specs.Writing.{FitsLayout, IsIndent}
 use Rattle.jsonc_edit.proofs.NodesKept.{row_kept}
 use Rattle.jsonc_edit.specs.multiline.Reflows.{has_newline}
-use Rattle.jsonc_edit.proofs.lemmas.multiline.OnLines.{bare_below}
 use Rattle.jsonc_edit.proofs.LeafKinds.{newline_is}
 use Rattle.jsonc_edit.proofs.lemmas.commas.CommaRows.{last_joined}
-use Rattle.jsonc_edit.proofs.Standing.{standing}
+use Rattle.jsonc_edit.proofs.Standing.{bare_below, brackets_stand, standing, standing_then}
 use Rattle.jsonc_insert.specs.Inserted.{leaves_before, leaves_behind, put_by, with_comma}
 use Rattle.jsonc_insert.specs.Made.{comma_at, comma_leaf, gap_leaves}
 use Rattle.jsonc_insert.specs.Planned.{elements, line_if, parting}
@@ -36,8 +35,8 @@ use Rattle.jsonc_insert.specs.declared.plan.Gap.TheVariants.{Nothing, Space, Lin
 use Rattle.jsonc_insert.specs.declared.plan.Plan.{Plan}
 use Rattle.jsonc_insert.specs.elements.Coming.{CommaInserted, none_comes, one_comes, ElementInserted, comes, Gap, nothing, a_space, a_line, GoesOn, elements_follow, none_follow, comma_last, takes_element, Follows, behind_bracket, behind_comma, behind_comments, no_others, EndsRow}
 use Rattle.jsonc_insert.proofs.lemmas.elements.Plans as plans
-use Rattle.jsonc_insert.proofs.lemmas.elements.Rows.{IsRow}
-use Rattle.jsonc_insert.proofs.lemmas.elements.RowsOfTrees.{AllAre, beside_alone, beside_are, blanks_alone, blanks_are, blanks_row, comma_first, line_first, standing_count, standing_then, token_first}
+use Rattle.jsonc_edit.proofs.lemmas.multiline.SoundRows.{IsRow}
+use Rattle.jsonc_insert.proofs.lemmas.elements.RowsOfTrees.{AllAre, beside_alone, beside_are, blanks_alone, blanks_are, blanks_row, comma_first, line_first, standing_count}
 
 -- what a plan writes for its gaps
 gap_any : (kind : CstNewlineKind) (s : List ℕ) (g : written.Gap) → IsIndent s → Gap false (gap_leaves kind s g)
@@ -302,13 +301,9 @@ module _ (o : Options) (kind : RowKind) (old ready : List Node) (tree : IsTree o
   unfolding new_row
   row_stands =
       let list : List ℕ = led.list ++ (written_list ++ back) in
-      ap (standing ready) led.row_from
-      ∙ token_first ready prepared.tree x (opening kind) (standing ready (list ++ y ∷ [])) (prepared.keeps.content x x_old ∙ opens)
-      ∙ ap (token_then (opening kind))
-      (standing_then ready list (y ∷ [])
-      ∙ ap (followed_by (standing ready list)) (token_first ready prepared.tree y (closing kind) none (prepared.keeps.content y y_old ∙ closes))
-      ∙ ap (λ r. followed_by r (token_then (closing kind) none))
-      (standing_then ready led.list (written_list ++ back) ∙ ap (λ r. followed_by r (standing ready (written_list ++ back))) led.stands ∙ ap (followed_by led.led) written_stands))
+      ap (standing ready) led.row_from ∙ brackets_stand ready prepared.tree x y (opening kind) (closing kind) list (prepared.keeps.content x x_old ∙ opens) (prepared.keeps.content y y_old ∙ closes)
+      ∙ ap (λ r. token_then (opening kind) (followed_by r (token_then (closing kind) none)))
+      (standing_then ready led.list (written_list ++ back) ∙ ap (λ r. followed_by r (standing ready (written_list ++ back))) led.stands ∙ ap (followed_by led.led) written_stands)
 
   -- where a line ends in the row, the element has one of its own
   module _ (fits_layout : FitsLayout o layout) (outer_fits : IsIndent outer) (lines : has_newline (standing old left) ≡ true → several ≡ true) where

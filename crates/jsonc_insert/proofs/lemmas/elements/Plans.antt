@@ -13,7 +13,7 @@ use Rattle.std.proofs.Math.Seq.{drop-cons, split_at}
 use Rattle.jsonc_text.specs.Options.{Options}
 use Rattle.jsonc_tree.specs.Changes.{EachOnce}
 use Rattle.jsonc_tree.specs.Content.{Content, token}
-use Rattle.jsonc_tree.specs.OrderedTree.{none, more, followed_by}
+use Rattle.jsonc_tree.specs.OrderedTree.{followed_by}
 use Rattle.jsonc_tree.specs.Tree.{Node, content_at, IsTree}
 use Rattle.jsonc_layout.specs.nodes.Kinds.{is_inline_trivia, is_inline_trivia_at, is_element, is_element_at, is_newline, is_trivia, is_whitespace, is_comma_at, is_comma, is_blank_at, is_newline_at, is_whitespace_at}
 use Rattle.jsonc_layout.specs.nodes.Siblings.{is_no_newline_at}
@@ -34,10 +34,10 @@ use Rattle.jsonc_insert.proofs.Counting.{found_last, planned_count}
 use Rattle.jsonc_insert.proofs.BeforeTheBracket.{stands_inside}
 use Rattle.jsonc_edit.proofs.Lists.{either_off, no_length}
 use Rattle.jsonc_edit.proofs.lemmas.commas.CommaRows.{last_joined}
-use Rattle.jsonc_edit.proofs.Standing.{standing}
+use Rattle.jsonc_edit.proofs.Standing.{standing, standing_then}
 use Rattle.jsonc_insert.specs.elements.Coming.{takes_element}
-use Rattle.jsonc_insert.proofs.lemmas.elements.Rows.{IsRow}
-use Rattle.jsonc_insert.proofs.lemmas.elements.RowsOfTrees.{AllAre, comma_first, standing_comma, standing_count, standing_then}
+use Rattle.jsonc_edit.proofs.lemmas.multiline.SoundRows.{IsRow}
+use Rattle.jsonc_insert.proofs.lemmas.elements.RowsOfTrees.{AllAre, comma_first, standing_comma, standing_count}
 use Rattle.jsonc_insert.proofs.lemmas.elements.Stretches.{comma_past, none_comes_first, without_elements}
 
 beside_last : (last : Last) (content : Content) → is_inline_trivia content ≡ true → last_after last content ≡ last

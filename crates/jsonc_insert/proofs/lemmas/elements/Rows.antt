@@ -30,18 +30,11 @@ use Rattle.jsonc_sound.proofs.SeamStretches.{followed_joined, joined_stretch, la
 use Rattle.jsonc_sound.proofs.Spaces.{Ends, last_of, serves_unless, stretch_no_word}
 use Rattle.jsonc_edit.specs.multiline.Reflows.{has_newline}
 use Rattle.jsonc_edit.proofs.lemmas.multiline.Reflow.{newline_ends}
+use Rattle.jsonc_edit.proofs.lemmas.multiline.SoundRows.{IsRow}
 use Rattle.jsonc_insert.specs.elements.Coming.{FirstLinesLeave, none_first, leave_first, LastLinesLeave, none_last, leave_last, BlankLinesLeave, Gap, nothing, a_space, a_line, CommaInserted, none_comes, one_comes, takes_element, GoesOn, elements_follow, none_follow, comma_last, ElementInserted, comes}
 use Rattle.jsonc_insert.proofs.lemmas.elements.Stretches.{and_false, behind_comma, ends_not_bare, false_and, first_comma, first_part, gap_ends, gap_first, gap_stretch, stretch_without, takes_stands, trivia_anywhere, trivia_first, without_elements}
 
--- what stands between the brackets of a sound array or object
-pub record IsRow (o : Options) (kind : RowKind) (row : OrderedTree) : Type 0 where
-  pub to : Last
-  pub stretch : StretchAlone o kind nothing_yet row to
-  pub may : IsTrue (may_end o to)
-  pub lines : LinesEndLoosely true false row
-  pub ends : LeavesEnd o (leaves row) None
-
--- what may come into such a row
+-- what may come into the row of a sound array or object
 pub record IsPart (o : Options) (kind : RowKind) (top : Top) : Type 0 where
   pub part : PartAlone o kind top.content top.below
   pub lines : LinesEndLoosely (is_loose top.content) false top.below

@@ -3,8 +3,8 @@ use Rattle.std.proofs.Common.{◌≡◌, ◌∙◌, ℕ, suc, Bool, true, false,
 use Rattle.std.specs.List.{take_while}
 use Rattle.std.proofs.lemmas.List.Sums.{take_while-cons}
 use Rattle.std.proofs.lemmas.List.Elements.{All-head, All-tail}
-use Rattle.jsonc_tree.specs.Content.{Content, is_container, newline, token}
-use Rattle.jsonc_tree.specs.OrderedTree.{OrderedTree, none, more, followed_by}
+use Rattle.jsonc_tree.specs.Content.{Content, is_container, newline}
+use Rattle.jsonc_tree.specs.OrderedTree.{OrderedTree, none, more}
 use Rattle.jsonc_tree.specs.Tree.{Node, content_at, IsTree}
 use Rattle.jsonc_tree.specs.declared.node.CstNewlineKind.{CstNewlineKind}
 use Rattle.jsonc_layout.specs.nodes.Kinds.{is_inline_trivia, is_inline_trivia_at, is_element, is_newline, is_trivia, is_trivia_at, is_whitespace, is_comma_at, is_comma, is_blank_at}
@@ -15,9 +15,8 @@ use Rattle.jsonc_sound.specs.MarkChanges.{AreBlanks}
 use Rattle.jsonc_sound.specs.TriviaChanges.{leaves_then}
 use Rattle.jsonc_edit.specs.Changes.{row_below}
 use Rattle.jsonc_insert.specs.Planned.{begins_with_comma, comma_comes, elements}
-use Rattle.jsonc_edit.proofs.lemmas.multiline.OnLines.{bare_below}
 use Rattle.jsonc_edit.proofs.LeafKinds.{comma_is}
-use Rattle.jsonc_edit.proofs.Standing.{standing}
+use Rattle.jsonc_edit.proofs.Standing.{bare_below, standing, token_first}
 use Rattle.jsonc_insert.proofs.lemmas.elements.Stretches.{comma_past}
 
 -- what a list's nodes are, by one test
@@ -39,10 +38,6 @@ blank_line (Content.newline k) h g = refl
 blank_line content h g = cc
 
 module _ (ns : List Node) where
-  pub standing_then : (xs ys : List ℕ) → standing ns (xs ++ ys) ≡ followed_by (standing ns xs) (standing ns ys)
-  standing_then [] ys = refl
-  standing_then (n ∷ xs) ys = ap (more (content_at ns n) (row_below ns n)) (standing_then xs ys)
-
   pub blanks_are : (xs : List ℕ) → AllAre (is_blank_at ns) xs → AreBlanks (map (content_at ns) xs)
   blanks_are [] all = tt
   blanks_are (n ∷ xs) all = (All-head (λ m. is_blank_at ns m ≡ true) n xs all, blanks_are xs (All-tail (λ m. is_blank_at ns m ≡ true) n xs all))
@@ -100,8 +95,5 @@ module _ (ns : List Node) where
     pub line_first : (n : ℕ) (row : OrderedTree) (k : CstNewlineKind) → content_at ns n ≡ newline k → more (content_at ns n) (row_below ns n) row ≡ more (newline k) none row
     line_first n row k e = ap (λ w. more w (row_below ns n) row) e ∙ ap (λ b. more (newline k) b row) (leaf_below n (ap is_container e))
 
-    pub token_first : (n c : ℕ) (row : OrderedTree) → content_at ns n ≡ token c → more (content_at ns n) (row_below ns n) row ≡ token_then c row
-    token_first n c row e = ap (λ w. more w (row_below ns n) row) e ∙ ap (λ b. more (token c) b row) (leaf_below n (ap is_container e))
-
     pub comma_first : (n : ℕ) (row : OrderedTree) → is_comma_at ns n ≡ true → more (content_at ns n) (row_below ns n) row ≡ token_then 0x2C row
-    comma_first n row h = token_first n 0x2C row (comma_is (content_at ns n) h)
+    comma_first n row h = token_first ns tree n 0x2C row (comma_is (content_at ns n) h)

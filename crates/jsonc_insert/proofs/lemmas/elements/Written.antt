@@ -26,10 +26,11 @@ use Rattle.jsonc_edit.specs.Writing.{IsWritable}
 use Rattle.jsonc_edit.proofs.Writable.{value_may_stand}
 use Rattle.jsonc_edit.specs.multiline.Laws.{bracketed}
 use Rattle.jsonc_insert.specs.elements.Laws.{ElementInsertedAt, InsertsItem, InsertsElement, IsInserted, item_count, ItemInserted, KeepsLeavesOutside, KeepsNodesInside}
-use Rattle.jsonc_insert.proofs.lemmas.elements.Documents.{Texts, marks_come, row_in_document, sound_with_row, texts}
+use Rattle.jsonc_edit.proofs.lemmas.multiline.SoundRows.{row_in_document, sound_with_row, texts, IsRow, Texts}
+use Rattle.jsonc_insert.proofs.lemmas.elements.Documents.{marks_come}
 use Rattle.jsonc_insert.proofs.lemmas.elements.Items.{counted, items_come, kept_items}
 use Rattle.jsonc_insert.proofs.lemmas.elements.Marked.{all_stay, kept_marks}
-use Rattle.jsonc_insert.proofs.lemmas.elements.Rows.{IsPart, IsRow, kept_row, new_row}
+use Rattle.jsonc_insert.proofs.lemmas.elements.Rows.{IsPart, kept_row, new_row}
 
 abbrev bracket : OrderedTree
 bracket = token_then (closing of_values) none

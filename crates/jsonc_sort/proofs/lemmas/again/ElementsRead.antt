@@ -24,7 +24,7 @@ use Rattle.jsonc_edit.specs.multiline.Lines.{between}
 use Rattle.jsonc_edit.specs.multiline.Multiline.{TakesRow}
 use Rattle.jsonc_edit.specs.multiline.Slots.{AreFilled, no_more, stayed, came}
 use Rattle.jsonc_edit.proofs.lemmas.multiline.WholeRow.{two_there}
-use Rattle.jsonc_edit.proofs.lemmas.multiline.Documents.{between_is}
+use Rattle.jsonc_edit.proofs.lemmas.multiline.BracketedRows.{between_is}
 use Rattle.jsonc_sort.specs.Slots.{Slot, stays, comes, all_stay}
 use Rattle.jsonc_sort.specs.Sorting.{Headers, entries, is_unchanged, lines_ended, rearranged, row_end, sorted}
 use Rattle.jsonc_sort.specs.Rearranged.{IsOrderIn, Rearranged, row_sorted}
