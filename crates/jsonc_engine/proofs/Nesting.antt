@@ -149,7 +149,7 @@ fit_set o w path i name v is numbers fits =
     let small : around (plain.object (member name v no_members)) ≤ 512 = fits in
     record { same = λ op is. ap (options_behind o) is; allows = numbers; small = omega (arith, same, entry_levels i w, small) }
 
-fit_order : (o : Options) (w : Option Plain) (path : List ℕ) (h : Headers) (order : List ℕ) → IsFit o w (rearrange path h order)
+fit_order : (o : Options) (w : Option Plain) (path : List ℕ) (h : Headers) (order : List ℕ) → IsFit o w (rearrange true path h order)
 fit_order o w path h order = record { same = λ op is. ap (options_behind o) is; allows = tt; small = omega arith }
 
 module _ (o : Options) (old new : List Node) where
@@ -192,7 +192,7 @@ module _ (o : Options) (old new : List Node) where
 
     sorts : IsTree old → SortsByName old new → IsShown o new
     sorts tree h =
-        by_step o old new before IsAt (λ path. rearrange path (headers_of [] false) h.order) h.c (over_at old tree [] h.c (value_stands old tree h.c h.value)) h.step
+        by_step o old new before IsAt (λ path. rearrange true path (headers_of [] false) h.order) h.c (over_at old tree [] h.c (value_stands old tree h.c h.value)) h.step
         (λ path there. fit_order o before.e.value path (headers_of [] false) h.order)
 
   -- a document that the old nodes show is within the depth, as the text that they print is

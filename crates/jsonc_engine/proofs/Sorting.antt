@@ -1,5 +1,5 @@
 -- The properties of an object in the order of their names.
-use Rattle.std.proofs.Common.{◌≡◌, ◌∙◌, ℕ, ◌+◌, ◌<◌, Bool, false, not, ◌&&◌, List, [], ◌∷◌, All, filter, get_or, length, map, Option, Some, None, inl, inr, refl, sym, ap, subst, arith}
+use Rattle.std.proofs.Common.{◌≡◌, ◌∙◌, ℕ, ◌+◌, ◌<◌, Bool, true, false, not, ◌&&◌, List, [], ◌∷◌, All, filter, get_or, length, map, Option, Some, None, inl, inr, refl, sym, ap, subst, arith}
 use Rattle.std.proofs.lemmas.Bool.{cases_Bool, false≢true}
 use Rattle.std.proofs.lemmas.Cmp.{nat_list_cmp_total}
 use Rattle.std.proofs.lemmas.List.{get_or-map, length-map}
@@ -45,11 +45,12 @@ use Rattle.jsonc_cst.specs.declared.cst.node.CstNode.{CstNode}
 use Rattle.jsonc_cst.specs.declared.cst.node.CstObject.{CstObject}
 use Rattle.jsonc_cst.specs.declared.cst.node.CstObjectProp.{CstObjectProp}
 use Rattle.jsonc_cst.specs.Document.{nodes_of, HasNode}
-use Rattle.jsonc_cst.specs.Nodes.{number_of, object_prop_node, typed, typed_at}
+use Rattle.jsonc_cst.specs.Nodes.{number_of, object_node, object_prop_node, typed, typed_at}
 use Rattle.jsonc_cst.specs.Readings.{object_if, property_under, typed_if}
 use Rattle.jsonc_cst.specs.sorting.Asking.{IsInItsOrder}
 use Rattle.jsonc_cst.specs.sorting.Rows.{property_if}
 use Rattle.jsonc_cst.specs.sorting.Sorted.{IsPlaced, PropertiesSorted}
+use Rattle.jsonc_cst.proofs.lemmas.sorting.UnderBlankLines.{none_under}
 use Rattle.jsonc_engine.specs.Sorting.{IsByName, IsSorted, SortsIfSound, has_less_name, is_less, numbers_in, pins_at, written_name}
 use Rattle.jsonc_engine.proofs.Removing.{object_read}
 
@@ -198,5 +199,5 @@ sorts_value o old new x tree read sorted = λ sound.
       order = sorted.order;
       by_name = sorted.by_name o [] sound at is.1;
       moved = sorted.placed.made;
-      step = sorted.placed.step;
+      step = sorted.placed.step true (λ e. none_under old (object_node x) [] refl);
     }

@@ -81,7 +81,7 @@ pub record SortsByName (old new : List Node) : Type 0 where
   pub order : List ℕ
   pub by_name : IsByName old c order
   pub moved : Rearranged old new c (headers_of [] false) order
-  pub step : IsStep IsAt (λ path. rearrange path (headers_of [] false) order) old new c
+  pub step : IsStep IsAt (λ path. rearrange true path (headers_of [] false) order) old new c
 
 -- so it is if the document was sound
 abbrev pub SortsIfSound : Options → List Node → List Node → Type 0

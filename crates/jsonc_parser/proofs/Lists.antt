@@ -42,20 +42,20 @@ left_alike old new s e r plain left = subst (λ (op : PlainEdit). OnErr r (IsLef
 
 -- what is said of a sort, as its edit is seen
 module _ {A : Type 0} (e : Edit A) (path : Vec ℕ A) (pin groups : Bool) (is : e ≡ Sort path pin groups) (seen : List ℕ) (same_path : seen ≡ path.items) where
-  sort_asks : (s : Sorting) → rearrange seen s.headers s.order ≡ operation_of s e
-  sort_asks s = ap (λ p. rearrange p s.headers s.order) same_path ∙ sym (ap (operation_of s) is)
+  sort_asks : (s : Sorting) → rearrange true seen s.headers s.order ≡ operation_of s e
+  sort_asks s = ap (λ p. rearrange true p s.headers s.order) same_path ∙ sym (ap (operation_of s) is)
 
-  pub sort_told : {T : Type 0} (ns : List Node) (s : Sorting) (r : Result T EditError) → IfErr r (FailsWith ns (rearrange seen s.headers s.order)) → IfErr r (FailsWith ns (operation_of s e))
+  pub sort_told : {T : Type 0} (ns : List Node) (s : Sorting) (r : Result T EditError) → IfErr r (FailsWith ns (rearrange true seen s.headers s.order)) → IfErr r (FailsWith ns (operation_of s e))
   sort_told ns s r reported = subst (λ (op : PlainEdit). IfErr r (FailsWith ns op)) (sort_asks s) reported
 
-  pub sort_left : {T E : Type 0} (old new : List Node) (s : Sorting) (r : Result T E) → OnErr r (IsLeft old (rearrange seen s.headers s.order) new) → OnErr r (IsLeft old (operation_of s e) new)
+  pub sort_left : {T E : Type 0} (old new : List Node) (s : Sorting) (r : Result T E) → OnErr r (IsLeft old (rearrange true seen s.headers s.order) new) → OnErr r (IsLeft old (operation_of s e) new)
   sort_left old new s r left = subst (λ (op : PlainEdit). OnErr r (IsLeft old op new)) (sort_asks s) left
 
   pub sort_made : {C D T E : Type 0} (call : Shared C (Bor D × (CstNode × (CstNode × Unit {0}))) Ordering) (compare : C) (same : CstRootNode A → D) (old new : CstRootNode A) (r : Result T E)
-      → OnOk r ((s : Sorting) × IsSorting call compare same old seen pin groups s × EditStep (nodes_of old) (rearrange seen s.headers s.order) (nodes_of new)) → OnOk r (IsRunStep call compare same old e new)
+      → OnOk r ((s : Sorting) × IsSorting call compare same old seen pin groups s × EditStep (nodes_of old) (rearrange true seen s.headers s.order) (nodes_of new)) → OnOk r (IsRunStep call compare same old e new)
   sort_made call compare same old new (Err x) made = tt
   sort_made call compare same old new (Ok x) (s, sorting, made) = (
-    rearrange seen s.headers s.order,
+    rearrange true seen s.headers s.order,
     record {
       sorting = s;
       asked = subst (λ (d : Edit A). IsAsked call compare same old d s) (sym is) (subst (λ p. IsSorting call compare same old p pin groups s) same_path sorting);

@@ -34,6 +34,7 @@
 //! Where commas may not be missing no space is needed where children are removed ([`nearest_tell`]), so a removal from
 //! a sound document needs no memory, of a value, a property or a comment ([`removals_want_no_memory`]).
 //!
+//! Rules of headers but a caller's pin comments only where a blank line is ([`rules_pin_under_blank_lines`]).
 //! The groups of a sort keep their places ([`groups_keep_their_places`], [`blank_lines_part_groups`]); a
 //! sorted list of children has each comment and each element once ([`sorted_rows_keep_their_nodes`]), and so has the sorted
 //! container, with its brackets, while comments deeper are where they were
@@ -66,8 +67,8 @@ pub use jsonc_cst::laws::{
     typed_calls_are_calls,
 };
 pub use jsonc_cst::sorted::laws::{
-    blank_lines_part_groups, groups_keep_their_places, second_sorts_by_key_change_no_byte,
-    second_sorts_change_no_byte,
+    blank_lines_part_groups, groups_keep_their_places, rules_pin_under_blank_lines,
+    second_sorts_by_key_change_no_byte, second_sorts_change_no_byte,
 };
 pub use jsonc_edit::space_laws::{nearest_tell, removals_want_no_memory};
 pub use jsonc_layout::input::laws::spelled_strings_are_strings;

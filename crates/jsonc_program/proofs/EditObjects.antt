@@ -48,8 +48,9 @@ use Rattle.jsonc_cst.specs.Document.{nodes_of, HasNode}
 use Rattle.jsonc_cst.specs.Nodes.{object_node, object_prop_node, typed, typed_at}
 use Rattle.jsonc_cst.specs.Readings.{property_under}
 use Rattle.jsonc_cst.specs.sorting.Asking.{IsInItsOrder}
-use Rattle.jsonc_cst.specs.sorting.Rows.{property_if}
+use Rattle.jsonc_cst.specs.sorting.Rows.{properties_asked, property_if}
 use Rattle.jsonc_cst.specs.sorting.Sorted.{PropertiesSorted}
+use Rattle.jsonc_cst.proofs.lemmas.sorting.UnderBlankLines.{Under}
 use Rattle.jsonc_engine.specs.Sorting.{IsByName, has_less_name, is_less, numbers_in, written_name}
 use Rattle.jsonc_program.specs.edit.Sorting.{HasSorted}
 
@@ -171,9 +172,13 @@ module _ {A F : Type 0} (g : Shared F (Bor (CstRootNode A) × (CstObjectProp × 
   abbrev Sorted : (pinned : CstNode → List (Option CstObjectProp) → List (Option ℕ) → Type 0) → CstObject → Bool → Type 0
   Sorted pinned y groups = PropertiesSorted old new y pinned groups (IsInItsOrder g compare old HeldIn)
 
+  -- what is pinned is so under blank lines
+  abbrev PinsUnder : (pinned : CstNode → List (Option CstObjectProp) → List (Option ℕ) → Type 0) → Type 0
+  PinsUnder pinned = (n : CstNode) (xs : List (Option CstObjectProp)) (pins : List (Option ℕ)) → pinned n xs pins → Under old n pins
+
   -- the object has been sorted by names, whatever is pinned
-  pub sorted_so : (pinned : CstNode → List (Option CstObjectProp) → List (Option ℕ) → Type 0) → IsTree (nodes_of old) → ComparesNames → Sorted pinned x false → HasSorted (nodes_of old) (nodes_of new) x.number
-  sorted_so pinned tree told (pins, pinned_so, sorted) =
+  pub sorted_so : (pinned : CstNode → List (Option CstObjectProp) → List (Option ℕ) → Type 0) → PinsUnder pinned → IsTree (nodes_of old) → ComparesNames → Sorted pinned x false → HasSorted (nodes_of old) (nodes_of new) x.number
+  sorted_so pinned under tree told (pins, pinned_so, sorted) =
       let ns = nodes_of old in
       let row : List ℕ = elements_at ns x.number in
       record {
@@ -184,10 +189,10 @@ module _ {A F : Type 0} (g : Shared F (Bor (CstRootNode A) × (CstObjectProp × 
             subst (λ (l : List (Option CstObjectProp)). IsOrderedBy (comes_before (less ns) l []) (length l) sorted.order) (object_asked o ns tree sound path x.number at is) (sorted.required (less ns) (compares told)) in
             by_name ns x.number sorted.order (subst (λ (n : ℕ). IsOrderedBy (before ns x.number) n sorted.order) (length-map row (λ (n : ℕ). Some (property_under n))) ordered);
         detached = sorted.placed.detached;
-        step = sorted.placed.step;
+        step = sorted.placed.step true (λ e. under (object_node x) (properties_asked old (object_node x)) pins pinned_so);
       }
 
-  pub sorted_by_names : (pinned : CstNode → List (Option CstObjectProp) → List (Option ℕ) → Type 0) (y : CstObject) (groups : Bool) → IsTree (nodes_of old) → y ≡ x → groups ≡ false → Sorted pinned y groups → ComparesNames
+  pub sorted_by_names : (pinned : CstNode → List (Option CstObjectProp) → List (Option ℕ) → Type 0) → PinsUnder pinned → (y : CstObject) (groups : Bool) → IsTree (nodes_of old) → y ≡ x → groups ≡ false → Sorted pinned y groups → ComparesNames
       → HasSorted (nodes_of old) (nodes_of new) x.number
-  sorted_by_names pinned y groups tree one off sorted told =
-      sorted_so pinned tree told (subst (λ (b : Bool). Sorted pinned x b) off (subst (λ (w : CstObject). Sorted pinned w groups) one sorted))
+  sorted_by_names pinned under y groups tree one off sorted told =
+      sorted_so pinned under tree told (subst (λ (b : Bool). Sorted pinned x b) off (subst (λ (w : CstObject). Sorted pinned w groups) one sorted))

@@ -1,5 +1,5 @@
 -- Objects that are sorted one after another, as one chain of documents.
-use Rattle.std.proofs.Common.{◌≡◌, ◌≢◌, ◌∙◌, ◌⊎◌, ◌≤◌, ℕ, zero, suc, List, [], ◌∷◌, Option, Some, None, inl, inr, refl, sym, ap, subst, arith}
+use Rattle.std.proofs.Common.{◌≡◌, ◌≢◌, ◌∙◌, ◌⊎◌, ◌≤◌, ℕ, zero, suc, true, List, [], ◌∷◌, Option, Some, None, inl, inr, refl, sym, ap, subst, arith}
 use Rattle.jsonc_text.specs.Documents.{Document}
 use Rattle.jsonc_tree.specs.Content.{object}
 use Rattle.jsonc_tree.specs.OrderedTree.{ordered_tree}
@@ -60,14 +60,14 @@ module _ {A : Type 0} (old new : CstRootNode A) (x : CstObject) (tree : IsTree (
   over_place over d shown =
       let s = sorted.step over d shown in
       let l = s.2 tt in
-      let asked = edits.rearrange s.0 sorted.headers sorted.order in
-      let run : Run d (rearrange s.0 sorted.order ∷ []) l.0 = subst (λ op. Run d (op ∷ []) l.0) l.3 l.4 in
+      let asked = edits.rearrange true s.0 sorted.headers sorted.order in
+      let run : Run d (rearrange true s.0 sorted.order ∷ []) l.0 = subst (λ op. Run d (op ∷ []) l.0) l.3 l.4 in
       let is : content_at (nodes_of old) x.number ≡ object = is_object old tree x held in (
         s.0,
         s.1,
         l.0,
         l.1,
-        run_options run (rearrange s.0 sorted.order) refl,
+        run_options run (rearrange true s.0 sorted.order) refl,
         run_within asked l.3 l.4 (omega arith),
         record {
           nodes = nodes_of old;

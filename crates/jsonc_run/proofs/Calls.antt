@@ -176,7 +176,7 @@ edit_is_call old (ensure_property path name shape how) new tree (n, at, (m, (fou
     in_document old tree new n up (named_ensured old new tree n (there old tree n up) name shape how found m first by)
 edit_is_call old (set_commas path mode) new tree (n, at, set) = at_path old tree new path n at.0 (commas_set mode n set)
 edit_is_call old (set_some_commas path mode) new tree (n, at, part) = at_path old tree new path n at.0 (some_commas_set mode n part)
-edit_is_call old (rearrange path headers order) new tree (n, at, (is, made)) = at_path old tree new path n at.0 (sorted n headers order made)
+edit_is_call old (rearrange by_blank_lines path headers order) new tree (n, at, (is, made, pins)) = at_path old tree new path n at.0 (sorted n headers order made)
 edit_is_call old (rename_property path name) new tree (n, at, (m, r)) =
     in_document old tree new n (property_over old tree path n at).0 (call_of_child old new tree r.0 n (named_child old tree n r.0 r.1) (gives_way_raw r.0 m (Plain.string name) r.2))
 edit_is_call old (insert_comment path place text) new tree (n, at, (may, comes)) =

@@ -16,7 +16,8 @@ use Rattle.jsonc_text.specs.declared.edit.TrailingCommaMode.TheVariants.{Never, 
 use Rattle.jsonc_edit.proofs.Uniqueness.{over_at}
 use Rattle.jsonc_run.specs.Places.{IsContainerAt}
 use Rattle.jsonc_run.specs.Written.{IsChangedAt}
-use Rattle.jsonc_sort.specs.Paths.{KeepsOutside, SaysSorted, SortedAt}
+use Rattle.jsonc_sort.specs.Above.{PinsUnderBlankLines}
+use Rattle.jsonc_sort.specs.Paths.{KeepsOutside, PinsIn, SaysSorted, SortedAt}
 use Rattle.jsonc_sort.specs.Rearranged.{IsOrderIn, Rearranged}
 use Rattle.jsonc_sort.specs.Sorting.{Headers}
 use Rattle.jsonc_sort.proofs.AtPaths.{sorts_at}
@@ -47,7 +48,8 @@ module _ (o : Options) (old new : List Node) (path : List ℕ) (n : ℕ) (tree :
   some_commas_within mode part = (top_at old n, top_at new n, stays_outside_in_part mode old n path new tree in_sound.over at.1 at.0 part)
 
   -- entries that come in an order
-  pub sorted_at : (headers : Headers) (order : List ℕ) → IsTree new → IsOrderIn old n order → Rearranged old new n headers order → SortedAt path order (ordered_tree old 0) (ordered_tree new 0)
+  pub sorted_at : (headers : Headers) (order : List ℕ) → IsTree new → IsOrderIn old n order → Rearranged old new n headers order
+      → (s : SortedAt path order (ordered_tree old 0) (ordered_tree new 0)) × (PinsUnderBlankLines old n headers → PinsIn s)
   sorted_at headers order after all made = sorts_at o old new path n headers order tree after sound at.0 at.1 all made
 
 -- what that says of the document

@@ -497,14 +497,14 @@ module _ (o : Options) (old new : List Node) (tree : IsTree old) (after : IsTree
         asks = refl;
         is = record { after = w.value; old_text = w.old_text; new_text = w.new_text; changed = by_commas; sound = w.sound; marked = w.marks; made = (w.commas, some_commas_within o old new path n tree s at mode part) };
       }
-  edit_made (rearrange path headers order) h k (n, at, (all, made)) =
+  edit_made (rearrange by_blank_lines path headers order) h k (n, at, (all, made, pins)) =
       let a = sorted_at o old new path n tree s at headers order after all made in
-      let w = sorted_says o path order old new s a in
+      let w = sorted_says o path order old new s a.0 in
       record {
         before = Some w.old;
-        op = texts.rearrange path order;
+        op = texts.rearrange by_blank_lines path order;
         asks = refl;
-        is = record { after = Some w.new; old_text = w.old_text; new_text = w.new_text; changed = by_sorting w.entries; sound = w.sound; marked = w.marks; made = (a, sorted_outside path order old new a) };
+        is = record { after = Some w.new; old_text = w.old_text; new_text = w.new_text; changed = by_sorting w.entries; sound = w.sound; marked = w.marks; made = (a.0, sorted_outside path order old new a.0, λ e. a.1 (pins e)) };
       }
   edit_made (rename_property path name) h k (n, at, (m, r)) = property_renamed path n m name at h r
   edit_made (insert_comment path place text) h k (n, at, (may, comes)) = remark_made path n place text at h k may comes

@@ -1,5 +1,5 @@
 -- Edits over plain values, what each makes of the nodes, and that they are made in order.
-use Rattle.std.specs.Prelude.{ℕ, Bool, true, false, List, [], ◌∷◌, length, Option, Some, None, IsTrue, IsUtf8, string_bytes}
+use Rattle.std.specs.Prelude.{◌≡◌, ℕ, Bool, true, false, List, [], ◌∷◌, length, Option, Some, None, IsTrue, IsUtf8, string_bytes}
 use Rattle.jsonc_text.specs.Plain.{Plain}
 use Rattle.jsonc_layout.specs.input.Views.{chars_of, plain}
 use Rattle.jsonc_tree.specs.Changes.{Splices}
@@ -21,6 +21,7 @@ use Rattle.jsonc_edit.specs.set.Kinds.{FoundOrCreated, FoundOrSet}
 use Rattle.jsonc_edit.specs.set.Names.{IsRenamed}
 use Rattle.jsonc_edit.specs.set.PropertyValues.{LastValue}
 use Rattle.jsonc_edit.specs.set.RootSet.{FirstValue}
+use Rattle.jsonc_sort.specs.Above.{PinsUnderBlankLines}
 use Rattle.jsonc_sort.specs.Rearranged.{IsOrderIn, Rearranged}
 use Rattle.jsonc_sort.specs.Sorting.{Headers}
 use Rattle.jsonc_run.specs.declared.edit.Edit.{Edit}
@@ -42,8 +43,8 @@ use Rattle.jsonc_layout.specs.from_input.Texts.{IsCharacters, IsOfTexts}
 -- that the array or object at the path is on several lines; that the value comes into the array at the path, as its element of this number or behind the last;
 -- that a property of this name and value so comes into the object at the path; that the first property of this name in the object at the path has a value of
 -- a shape; that the trailing commas of the array or object at the path, and of those below it, are set, or, where memory was refused on the way, of the first of
--- them; that the entries of the array or object at the path come in an order, with headers that are pinned; that the property at the path has this name; that the
--- comment of this text, in bytes, is inserted above the entry at the path, or after it.
+-- them; that the entries of the array or object at the path come in an order, with headers that are pinned, if `by_blank_lines` only by these; that the property
+-- at the path has this name; that the comment of this text, in bytes, is inserted above the entry at the path, or after it.
 pub data PlainEdit : Type 0 where
   replace : List ℕ → Plain → PlainEdit
   remove : List ℕ → PlainEdit
@@ -63,7 +64,7 @@ pub data PlainEdit : Type 0 where
   ensure_property : List ℕ → List ℕ → Shape → Over → PlainEdit
   set_commas : List ℕ → TrailingCommaMode → PlainEdit
   set_some_commas : List ℕ → TrailingCommaMode → PlainEdit
-  rearrange : List ℕ → Headers → List ℕ → PlainEdit
+  rearrange : (by_blank_lines : Bool) → (path : List ℕ) → Headers → (order : List ℕ) → PlainEdit
   rename_property : List ℕ → List ℕ → PlainEdit
   insert_comment : List ℕ → comments.Place → List ℕ → PlainEdit
 
@@ -106,7 +107,7 @@ operation_of s (InsertProperty path index name value) = insert_property path.ite
 operation_of s (AppendProperty path name value) = append_property path.items (chars_of name) (plain value)
 operation_of s (EnsureProperty path name shape how) = ensure_property path.items (chars_of name) shape how
 operation_of s (SetTrailingCommas path mode) = set_commas path.items mode
-operation_of s (Sort path pin groups) = rearrange path.items s.headers s.order
+operation_of s (Sort path pin groups) = rearrange true path.items s.headers s.order
 operation_of s (RenameProperty path name) = rename_property path.items (chars_of name)
 operation_of s (InsertComment path place text) = insert_comment path.items place (string_bytes text)
 
@@ -130,7 +131,7 @@ place_of (append_property path name v) = at_object path
 place_of (ensure_property path name shape how) = at_object path
 place_of (set_commas path mode) = at_container path
 place_of (set_some_commas path mode) = at_container path
-place_of (rearrange path headers order) = at_container path
+place_of (rearrange by_blank_lines path headers order) = at_container path
 place_of (rename_property path name) = at_property path
 place_of (insert_comment path place text) = at_entry path
 
@@ -202,8 +203,9 @@ PropertyValueSet old new r v (Some n) = (m : ℕ) × IsReplaced old new n v m
 -- m; or the document has a value of the shape, if it had none of another that was to stay; or the value of n, a property, has been set, or is of the shape; or n, a
 -- truth value, has become this one; or n, an array or object, has been put on several lines, or was on several; or into n the value has come as m, at this number or
 -- behind all elements, or the property so; or the first property of the name in n has a value of the shape, or another that was to stay, or has come; or the
--- trailing commas of n and of those below it have been set, or those of the first of these; or its entries have come in the order; or n, a property, has the name,
--- whose node is m, and else what it had; or the comment, which may be inserted there, has been inserted above n or after it.
+-- trailing commas of n and of those below it have been set, or those of the first of these; or its entries have come in the order, with comments pinned by blank lines
+-- alone, if that is asked for; or n, a property, has the name, whose node is m, and else what it had; or the comment, which may be inserted there, has been inserted
+-- above n or after it.
 abbrev pub MakesAt : List Node → ℕ → PlainEdit → List Node → Type 0
 MakesAt old n (replace path v) new = (m : ℕ) × IsReplaced old new n v m
 MakesAt old n (remove path) new = TakesElement old new n
@@ -223,7 +225,7 @@ MakesAt old n (append_property path name v) new = (m : ℕ) × PropertyPut old n
 MakesAt old n (ensure_property path name shape how) new = (m : Option ℕ) × NamedEnsured shape how old new n name m
 MakesAt old n (set_commas path mode) new = AreSetInTurn mode old (holders old n) new
 MakesAt old n (set_some_commas path mode) new = AreSetInPart mode old (holders old n) new
-MakesAt old n (rearrange path headers order) new = IsOrderIn old n order × Rearranged old new n headers order
+MakesAt old n (rearrange by_blank_lines path headers order) new = IsOrderIn old n order × Rearranged old new n headers order × (by_blank_lines ≡ true → PinsUnderBlankLines old n headers)
 MakesAt old n (rename_property path name) new = (m : ℕ) × IsRenamed old new n name m
 MakesAt old n (insert_comment path place text) new = MayCome place old n text × Comes place old new n text
 

@@ -120,7 +120,7 @@ Asks w (append_property path name v) op = (ms : Members) × (i : ℕ) × StandsA
 Asks w (ensure_property path name shape how) op = (ms : Members) × StandsAt (object ms) path w × EnsuresNamed w path name shape how ms op
 Asks w (set_commas path mode) op = op ≡ texts.set_commas true path mode
 Asks w (set_some_commas path mode) op = op ≡ texts.set_commas false path mode
-Asks w (rearrange path headers order) op = op ≡ texts.rearrange path order
+Asks w (rearrange by_blank_lines path headers order) op = op ≡ texts.rearrange by_blank_lines path order
 Asks w (rename_property path name) op = op ≡ texts.rename_property path name
 Asks w (insert_comment path place text) op = op ≡ texts.insert_comment path place (chars text)
 

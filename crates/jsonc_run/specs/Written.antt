@@ -41,7 +41,7 @@ use Rattle.jsonc_sound.specs.Booleans.{boolean_leaf, is_hex_leaf}
 use Rattle.jsonc_edit.specs.Comments.{comments_ahead, LosesComment}
 use Rattle.jsonc_edit.specs.SeamLaws.{comments_before, LosesWithSeam}
 use Rattle.jsonc_edit.specs.multiline.Laws.{SpreadAt}
-use Rattle.jsonc_sort.specs.Paths.{KeepsOutside, SortedAt}
+use Rattle.jsonc_sort.specs.Paths.{KeepsOutside, PinsIn, SortedAt}
 
 -- the options of the document behind operations, one after another
 abbrev pub options_after : Options → List Operation → Options
@@ -68,7 +68,7 @@ pub data IsChanged : Option Plain → Operation → Option Plain → Type 0 wher
   by_clearing : {w : Option Plain} → IsChanged w clear_root None
   by_lines : {w : Option Plain} {path : List ℕ} → IsChanged w (ensure_multiline path) w
   by_commas : {w : Option Plain} {whole : Bool} {path : List ℕ} {mode : TrailingCommaMode} → IsChanged w (set_commas whole path mode) w
-  by_sorting : {path order : List ℕ} {x y : Plain} → SortsEntries path order x y → IsChanged (Some x) (rearrange path order) (Some y)
+  by_sorting : {by_blank_lines : Bool} {path order : List ℕ} {x y : Plain} → SortsEntries path order x y → IsChanged (Some x) (rearrange by_blank_lines path order) (Some y)
   by_name : (path : List ℕ) (i : ℕ) {name : List ℕ} {x y : Plain} → RenamesMember path i name x y → IsChanged (Some x) (rename_property (path ++ i ∷ []) name) (Some y)
   by_inserting_comment : {w : Option Plain} {path comment : List ℕ} {place : Place} → IsChanged w (insert_comment path place comment) w
 
@@ -131,7 +131,7 @@ IsMarked x (remove_comment number) y = (s : List ℕ) × (gone : MarksDifferIn (
 IsMarked x clear_root y = y ≡ []
 IsMarked x (ensure_multiline path) y = y ≡ x
 IsMarked x (set_commas whole path mode) y = y ≡ x
-IsMarked x (rearrange path order) y = (test : Mark → Bool) → count_by test y ≡ count_by test x
+IsMarked x (rearrange by_blank_lines path order) y = (test : Mark → Bool) → count_by test y ≡ count_by test x
 IsMarked x (rename_property path name) y = (was : List Mark) × MarksDifferIn was (marks.literal (spelled name) ∷ []) x y
 IsMarked x (insert_comment path place comment) y = MarksDifferIn [] (comment_mark comment ∷ []) x y
 
@@ -155,6 +155,6 @@ MadeIn o t clear_root u = u ≡ root_with none
 MadeIn o t (ensure_multiline path) u = SpreadAt path t u
 MadeIn o t (set_commas true path mode) u = OnlyCommas mode t u × (at : IsChangedAt path t u) × IsAsSaid mode o at.1.content at.1.below
 MadeIn o t (set_commas false path mode) u = OnlyCommas mode t u × IsChangedAt path t u
-MadeIn o t (rearrange path order) u = (sorted : SortedAt path order t u) × KeepsOutside sorted
+MadeIn o t (rearrange by_blank_lines path order) u = (sorted : SortedAt path order t u) × KeepsOutside sorted × (by_blank_lines ≡ true → PinsIn sorted)
 MadeIn o t (rename_property path name) u = RenamesProperty name t u path
 MadeIn o t (insert_comment path place comment) u = CommentInserted path place comment t u

@@ -1,6 +1,6 @@
 -- The elements of an array or object at a path of a sound document come in another order.
 use Rattle.std.proofs.Common.{◌≡◌, ◌∙◌, ℕ, ◌<◌, Bool, true, false, not, ◌&&◌, inl, inr, List, [], ◌∷◌, ◌++◌, length, map, IsTrue, refl, sym, ap, subst}
-use Rattle.std.specs.Prelude.{zip, IsPermutation}
+use Rattle.std.specs.Prelude.{if◌then◌else◌, zip, IsPermutation}
 use Rattle.std.specs.List.{range_with_len}
 use Rattle.std.proofs.lemmas.Bool.{cases_Bool}
 use Rattle.jsonc_text.specs.Options.{Options}
@@ -32,7 +32,8 @@ use Rattle.jsonc_sort.specs.Slots.{Slot, stays, comes, all_stay, row_in, row_the
 use Rattle.jsonc_sort.specs.Parts.{has_comma}
 use Rattle.jsonc_sort.specs.Sorting.{Entry, Headers, ends_with_comma, entries, entry_at, goes_on, is_unchanged, lines_ended, placed, placed_one, rearranged, row_end, slot_content, sorted, tail_with, travelling, without_comma}
 use Rattle.jsonc_sort.specs.Laws.{IsOrderOf, Sort, container_after, container_before, slots_of}
-use Rattle.jsonc_sort.specs.Paths.{SortedAt, SortsAt}
+use Rattle.jsonc_sort.specs.Above.{PinUnderBlankLines, PinsUnderBlankLines, leads}
+use Rattle.jsonc_sort.specs.Paths.{PinsIn, SortedAt, SortsAt}
 use Rattle.jsonc_sort.specs.Rearranged.{IsOrderIn, Rearranged, row_sorted}
 use Rattle.jsonc_sort.proofs.Choices.{Each, all_each, choose, each_joined}
 use Rattle.jsonc_sort.proofs.Documents.{row_joined}
@@ -142,22 +143,35 @@ module _ (o : Options) (old new : List Node) (path : List ℕ) (c : ℕ) (h : He
   entries_perm : IsPermutation (range_with_len 0 (length (entries (content_at old) h s.row))) order
   entries_perm = subst (λ n. IsPermutation (range_with_len 0 n) order) (sym (entry_count (content_at old) h s.row)) order_is
 
+  -- comments are pinned as they were to be
+  pins_there : PinsUnderBlankLines old c h → PinUnderBlankLines (content_at old) h.pinned (leads (content_at old) s.row)
+  pins_there pins = subst (PinUnderBlankLines (content_at old) h.pinned) (ap (λ b. if b then leads (content_at old) s.row else []) (is_true (has_brackets old c) whole)) pins
+    where
+      is_true : (b : Bool) → IsTrue b → b ≡ true
+      is_true true e = refl
+      is_true false e = cc
+
+  abbrev SortedTo : List Node → Type 0
+  SortedTo ns = (a : SortedAt path order (ordered_tree old 0) (ordered_tree ns 0)) × (PinsUnderBlankLines old c h → PinsIn a)
+
   -- so it is where these take the place of those
-  in_places : (new : List Node) {now : OrderedTree} → DocumentChanged (bracketed kind (standing old b.inner)) (bracketed kind now) path (ordered_tree old 0) (ordered_tree new 0) → now ≡ row_in top (slots_of top s) → SortedAt path order (ordered_tree old 0) (ordered_tree new 0)
+  in_places : (new : List Node) {now : OrderedTree} → DocumentChanged (bracketed kind (standing old b.inner)) (bracketed kind now) path (ordered_tree old 0) (ordered_tree new 0) → now ≡ row_in top (slots_of top s) → SortedTo new
   in_places new {now} changed e =
-      let now_is : bracketed kind now ≡ container_after kind top s = ap (container_of kind) (ap (λ r. followed_by r close) e ∙ row_joined top (slots_of top s) close) in
-      record {
-        kind = kind;
-        top = top;
-        sort = s;
-        by = refl;
-        is_order = order_is;
-        changed = subst (λ (w : Top). DocumentChanged (container_before kind top s) w path (ordered_tree old 0) (ordered_tree new 0)) now_is
-            (subst (λ (w : Top). DocumentChanged w (bracketed kind now) path (ordered_tree old 0) (ordered_tree new 0)) was_is changed);
-      }
+      let now_is : bracketed kind now ≡ container_after kind top s = ap (container_of kind) (ap (λ r. followed_by r close) e ∙ row_joined top (slots_of top s) close) in (
+        record {
+          kind = kind;
+          top = top;
+          sort = s;
+          by = refl;
+          is_order = order_is;
+          changed = subst (λ (w : Top). DocumentChanged (container_before kind top s) w path (ordered_tree old 0) (ordered_tree new 0)) now_is
+              (subst (λ (w : Top). DocumentChanged w (bracketed kind now) path (ordered_tree old 0) (ordered_tree new 0)) was_is changed);
+        },
+        pins_there,
+      )
 
   -- where the order is the old one, all stays
-  unchanged : is_unchanged order ≡ true → SortedAt path order (ordered_tree old 0) (ordered_tree old 0)
+  unchanged : is_unchanged order ≡ true → SortedTo old
   unchanged e =
       let slots : all_stay s.row ≡ slots_of top s = sym (rw e refl) in
       in_places old (row_stays old tree c there b path at) (sym (all_stand old b.inner) ∙ ap (λ l. row_in top (all_stay l)) (sym (in_row old tree c there b)) ∙ ap (λ l. row_in top l) slots)
@@ -170,7 +184,7 @@ module _ (o : Options) (old new : List Node) (path : List ℕ) (c : ℕ) (h : He
       let inner : Each (λ n. n < length old) s.row = subst (Each (λ n. n < length old)) (sym (in_row old tree c there b)) (all_each (λ n. n < length old) b.inner (inner_there old tree c there b)) in
       all_fit old (content_at old) slots (sorted_held (content_at old) (λ n. n < length old) s.newline h s.row order inner entries_perm) (sorted_leaves (content_at old) s.newline h s.row order)
 
-  rearranged_at : TakesRow old new c slots → SortedAt path order (ordered_tree old 0) (ordered_tree new 0)
+  rearranged_at : TakesRow old new c slots → SortedTo new
   rearranged_at r = in_places new (row_taken old tree c there b new r slots_fit path at) (rows_same old slots)
 
   no_move : (a u : Bool) → a ≡ true → u ≡ true → (a && not u) ≡ false
@@ -179,10 +193,10 @@ module _ (o : Options) (old new : List Node) (path : List ℕ) (c : ℕ) (h : He
   all_move : (a u : Bool) → a ≡ true → u ≡ false → (a && not u) ≡ true
   all_move a u e f = ap (λ x. x && not u) e ∙ ap not f
 
-  pub sorted_at : Rearranged old new c h order → SortedAt path order (ordered_tree old 0) (ordered_tree new 0)
+  pub sorted_at : Rearranged old new c h order → SortedTo new
   sorted_at made =
       elim (cases_Bool (is_unchanged order)) [
-        | inl e ↦ subst (λ ns. SortedAt path order (ordered_tree old 0) (ordered_tree ns 0)) (sym (made.was (no_move (has_brackets old c) (is_unchanged order) whole e))) (unchanged e)
+        | inl e ↦ subst SortedTo (sym (made.was (no_move (has_brackets old c) (is_unchanged order) whole e))) (unchanged e)
         | inr e ↦ rearranged_at (made.is (all_move (has_brackets old c) (is_unchanged order) whole e))
       ]
 

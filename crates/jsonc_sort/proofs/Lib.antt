@@ -22,6 +22,7 @@ pub mod SortedRow
 pub mod KeptChildren
 pub mod AtPaths
 pub mod SortedDocuments
+pub mod Pins
 pub mod LeadPlaces
 pub mod Lasts
 pub mod LeadsRead

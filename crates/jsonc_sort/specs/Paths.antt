@@ -16,7 +16,8 @@ use Rattle.jsonc_sound.specs.TreeChanges.{leaves_of, DocumentChanged}
 use Rattle.jsonc_edit.specs.Paths.{IsAt}
 use Rattle.jsonc_sort.specs.Sorting.{Headers}
 use Rattle.jsonc_sort.specs.Rearranged.{IsOrderIn, Rearranged}
-use Rattle.jsonc_sort.specs.Laws.{IsOrderOf, Sort, SortsEntries, container_after, container_before}
+use Rattle.jsonc_sort.specs.Above.{PinUnderBlankLines, PinsUnderBlankLines, leads}
+use Rattle.jsonc_sort.specs.Laws.{IsOrderOf, Sort, SortsEntries, container_after, container_before, content_of}
 
 -- where c has less than two elements, all nodes are as they were
 abbrev pub FewStay : List Node → List Node → ℕ → Headers → List ℕ → Type 0
@@ -31,11 +32,15 @@ pub record SortedAt (path order : List ℕ) (t u : OrderedTree) : Type 0 where
   pub is_order : IsOrderOf top sort.row sort.order
   pub changed : DocumentChanged (container_before kind top sort) (container_after kind top sort) path t u
 
+-- comments are pinned in it only where a blank line stands before an element
+abbrev pub PinsIn : {path order : List ℕ} {t u : OrderedTree} → SortedAt path order t u → Type 0
+PinsIn s = PinUnderBlankLines (content_of s.top) s.sort.headers.pinned (leads (content_of s.top) s.sort.row)
+
 -- so it is where the elements of c, at a path of a sound document, come in another order
 abbrev pub SortsAt : Options → List Node → List Node → List ℕ → ℕ → Headers → List ℕ → Type 0
 SortsAt o old new path c h order =
     IsTree old → IsTree new → SoundTree o (ordered_tree old 0) → IsAt old path c → IsTrue (is_array_or_object (content_at old c)) → IsOrderIn old c order
-    → Rearranged old new c h order → SortedAt path order (ordered_tree old 0) (ordered_tree new 0)
+    → Rearranged old new c h order → (s : SortedAt path order (ordered_tree old 0) (ordered_tree new 0)) × (PinsUnderBlankLines old c h → PinsIn s)
 
 -- The text was a document, and is one whose value has the entries at the path in that order; each literal and comment is
 -- there as often as before; and the document is sound.

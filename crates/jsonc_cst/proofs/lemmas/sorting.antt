@@ -1,4 +1,5 @@
 pub mod Placed
+pub mod UnderBlankLines
 pub mod Keyed
 pub mod Pinned
 pub mod Commented

@@ -1,11 +1,12 @@
 -- What a sort makes of a document.
-use Rattle.std.specs.Prelude.{◌≡◌, ◌<◌, ℕ, Bool, List, length, Option}
+use Rattle.std.specs.Prelude.{◌≡◌, ◌<◌, ℕ, Bool, true, List, length, Option}
 use Rattle.jsonc_tree.specs.Tree.{Node}
 use Rattle.jsonc_layout.specs.nodes.Siblings.{elements_at}
 use Rattle.jsonc_edit.specs.Paths.{IsAt}
 use Rattle.jsonc_run.specs.promise.Steps.{IsStep}
 use Rattle.jsonc_run.specs.Edits.{rearrange}
 use Rattle.jsonc_cst.specs.typed.Edits.{KeepsDocumentOf}
+use Rattle.jsonc_sort.specs.Above.{PinsUnderBlankLines}
 use Rattle.jsonc_sort.specs.Rearranged.{IsOrderIn, Rearranged, headers_of}
 use Rattle.jsonc_sort.specs.Sorting.{Headers}
 use Rattle.jsonc_cst.specs.declared.cst.CstRootNode.{CstRootNode}
@@ -19,13 +20,13 @@ use Rattle.jsonc_cst.specs.sorting.Pins.{pins_where}
 use Rattle.jsonc_cst.specs.sorting.Rows.{elements_asked, properties_asked, starts_of}
 
 -- The elements of c are in the order now, with what belongs to them. Where there are less than two, no node has changed; where c is not in the document, nothing of
--- this has, and where it is, that is one step.
+-- this has, and where it is, that is one step; by blank lines, where comments are pinned only under these.
 pub record IsPlaced (old new : List Node) (c : ℕ) (h : Headers) (order : List ℕ) : Type 0 where
   pub all : IsOrderIn old c order
   pub made : Rearranged old new c h order
   pub few : length (elements_at old c) < 2 → new ≡ old
   pub detached : KeepsDocumentOf old new c
-  pub step : IsStep IsAt (λ path. rearrange path h order) old new c
+  pub step : (by_blank_lines : Bool) → (by_blank_lines ≡ true → PinsUnderBlankLines old c h) → IsStep IsAt (λ path. rearrange by_blank_lines path h order) old new c
 
 -- they are in an order that is required
 pub record HasSorted {A : Type 0} (old new : CstRootNode A) (node : CstNode) (h : Headers) (IsRequired : List ℕ → Type 0) : Type 0 where

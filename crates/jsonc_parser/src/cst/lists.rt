@@ -1,6 +1,6 @@
 //! Lists of edits.
 
-ghost use Rattle.std.specs.Prelude.{◌≡◌, IfErr, OnErr, OnOk};
+ghost use Rattle.std.specs.Prelude.{◌≡◌, IfErr, OnErr, OnOk, true};
 ghost use Rattle.jsonc_cst.specs.Document.{nodes_of};
 ghost use Rattle.jsonc_run.specs.Edits.{operation_of, rearrange, EditStep, Sorting};
 ghost use Rattle.jsonc_run.specs.Refusals.{IsLeft, FailsWith};
@@ -23,11 +23,11 @@ fn sort_at<A: Allocator + Copy, D: DocumentArg<A>, C: Fn(&D, CstNode, CstNode) -
 ) -> Result<(), EditError>
     requires callable { MayBeAsked C.Fn compare.now D.same }
     ensures made { OnOk result ((s : Sorting) × IsSorting C.Fn compare.now D.same doc.old path.now pin groups s
-        × EditStep (nodes_of doc.old) (rearrange path.now s.headers s.order) (nodes_of doc.new)) }
+        × EditStep (nodes_of doc.old) (rearrange true path.now s.headers s.order) (nodes_of doc.new)) }
     ensures error { (s : Sorting)
-        → IfErr result (FailsWith (nodes_of doc.old) (rearrange path.now s.headers s.order)) }
+        → IfErr result (FailsWith (nodes_of doc.old) (rearrange true path.now s.headers s.order)) }
     ensures left { (s : Sorting)
-        → OnErr result (IsLeft (nodes_of doc.old) (rearrange path.now s.headers s.order) (nodes_of doc.new)) }
+        → OnErr result (IsLeft (nodes_of doc.old) (rearrange true path.now s.headers s.order) (nodes_of doc.new)) }
 {
     let tree = doc.tree();
     let Some(number) = find_container(tree, path) else {

@@ -1,5 +1,5 @@
 -- What a sort makes of a document.
-use Rattle.std.specs.Prelude.{◌≡◌, ℕ, List, [], ◌∷◌}
+use Rattle.std.specs.Prelude.{◌≡◌, ℕ, true, List, [], ◌∷◌}
 use Rattle.jsonc_text.specs.Options.{Options}
 use Rattle.jsonc_text.specs.Documents.{Document, IsOne}
 use Rattle.jsonc_tree.specs.Content.{object}
@@ -29,7 +29,7 @@ pub record SortsAt (path : List ℕ) (d e : Document) : Type 0 where
   pub is_object : content_at nodes object_node ≡ object
   pub order : List ℕ
   pub by_name : IsByName nodes object_node order
-  pub sorted : Run d (rearrange path order ∷ []) e
+  pub sorted : Run d (rearrange true path order ∷ []) e
 
 -- so it is of several objects, one after another
 pub data SortsObjects : Document → Document → Type 0 where
@@ -43,7 +43,7 @@ pub record HasSorted (old new : List Node) (c : ℕ) : Type 0 where
   pub headers : Headers
   pub by_name : (o : Options) (path : List ℕ) → SoundTree o (ordered_tree old 0) → IsAt old path c → content_at old c ≡ object → IsByName old c order
   pub detached : KeepsDocumentOf old new c
-  pub step : IsStep IsAt (λ path. edits.rearrange path headers order) old new c
+  pub step : IsStep IsAt (λ path. edits.rearrange true path headers order) old new c
 
 module _ {A : Type 0} where
   -- objects have been sorted in the document that the old one shows

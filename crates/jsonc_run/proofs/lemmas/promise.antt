@@ -42,6 +42,7 @@ pub mod Lines
 pub mod Properties
 pub mod Naming
 pub mod SortedParts
+pub mod SortedHeaders
 pub mod SortedEntries
 pub mod SortedTexts
 pub mod Sorting

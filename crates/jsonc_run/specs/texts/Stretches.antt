@@ -33,6 +33,10 @@ is_space c = is_blank c && not (is_line_end c)
 abbrev pub AreSpaces : List ℕ → Type 0
 AreSpaces s = Many is_space s []
 
+-- two lines end in the stretch, and no more than spaces stand between their ends; the two parts of a CR LF count as two ends
+abbrev pub HasBlankLine : List ℕ → Type 0
+HasBlankLine s = (x line spaces other y : List ℕ) × (s ≡ x ++ (line ++ (spaces ++ (other ++ y)))) × IsLineEnd line × AreSpaces spaces × IsLineEnd other
+
 -- blanks that pass the test, and comments
 pub data Trivia (p : ℕ → Bool) : List ℕ → Type 0 where
   nothing : Trivia p []

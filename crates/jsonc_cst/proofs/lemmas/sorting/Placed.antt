@@ -1,8 +1,9 @@
 -- Elements that are put in an order: what becomes of a document and its nodes.
-use Rattle.std.proofs.Common.{ℕ, List, IsTrue, inl, inr}
+use Rattle.std.proofs.Common.{◌≡◌, ℕ, Bool, true, List, IsTrue, inl, inr}
 use Rattle.std.proofs.lemmas.Bool.{cases_Bool}
 use Rattle.jsonc_tree.specs.Tree.{Node, content_at, IsTree}
 use Rattle.jsonc_layout.specs.lines.Kinds.{is_array_or_object}
+use Rattle.jsonc_sort.specs.Above.{PinsUnderBlankLines}
 use Rattle.jsonc_sort.specs.Rearranged.{moves, IsOrderIn, Rearranged}
 use Rattle.jsonc_sort.specs.Sorting.{Headers}
 use Rattle.jsonc_sort.proofs.Orders.{few_stay}
@@ -16,9 +17,10 @@ use Rattle.jsonc_cst.proofs.lemmas.typed.HandlesKept.{Stays, stay_both, stay_kep
 use Rattle.jsonc_cst.specs.sorting.Sorted.{IsPlaced}
 
 module _ (old new : List Node) (c : ℕ) (h : Headers) (order : List ℕ) (before : IsTree old) (after : IsTree new) (holds : IsTrue (is_array_or_object (content_at old c))) (all : IsOrderIn old c order) where
-  step : Rearranged old new c h order → IsStep IsAt (λ path. rearrange path h order) old new c
-  step made =
-      made_step old new before after IsAt (λ path. rearrange path h order) c (λ path. tt) (λ o sound over. holder_path o old before sound c over holds) (λ path over at. (c, (at, holds), (all, made)))
+  step : Rearranged old new c h order → (by_blank_lines : Bool) → (by_blank_lines ≡ true → PinsUnderBlankLines old c h) → IsStep IsAt (λ path. rearrange by_blank_lines path h order) old new c
+  step made by_blank_lines pins =
+      made_step old new before after IsAt (λ path. rearrange by_blank_lines path h order) c (λ path. tt) (λ o sound over. holder_path o old before sound c over holds)
+      (λ path over at. (c, (at, holds), (all, made, pins)))
 
   pub is_placed : Rearranged old new c h order → IsPlaced old new c h order
   is_placed made = record { all = all; made = made; few = λ less. few_stay old new c h order less all made; detached = order_elsewhere old before new c h order after made; step = step made }

@@ -141,7 +141,7 @@ step_made o t u w x (texts.ensure_multiline path) s f = multiline_made o t u w x
 step_made o t u w x (texts.set_commas true path mode) s f =
     lines.commas_made o t u w x path mode s.new.sound s.new.text (some_commas_made o t u w x path mode s.old.sound s.new.sound (lines.same_by_commas s.changed) s.marked s.made.0 (inr s.made.1)) (lines.set_at_path mode o path s.made.1 s.made.2)
 step_made o t u w x (texts.set_commas false path mode) s f = (some_commas_made o t u w x path mode s.old.sound s.new.sound (lines.same_by_commas s.changed) s.marked s.made.0 (inr s.made.1), tt)
-step_made o t u w x (texts.rearrange path order) s f = rearranged o t u w x path order s.old.sound s.new.sound s.old.value s.new.value s.changed s.marked s.made.0
+step_made o t u w x (texts.rearrange by_blank_lines path order) s f = rearranged o t u w x by_blank_lines path order s.old.sound s.new.sound s.old.value s.new.value s.changed s.marked s.made.0 s.made.2
 step_made o t u w x (texts.rename_property path name) s f = name_made o t u w x path name f s.old.sound s.new.sound s.changed s.made
 step_made o t u w x (texts.insert_comment path place comment) s f = remark_put o s.old.sound s.new.sound w x path place comment s.changed s.made
 

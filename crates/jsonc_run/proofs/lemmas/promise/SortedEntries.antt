@@ -1,5 +1,5 @@
 -- The entries of a row with what goes with each, in the text.
-use Rattle.std.proofs.Common.{◌≡◌, ℕ, zero, suc, ◌+◌, ◌≤◌, Bool, true, false, ◌&&◌, ◌||◌, ◌⊎◌, List, [], ◌∷◌, ◌++◌, length, take, drop, map, Option, refl, sym, ap, subst, ◌∙◌, arith, inl, inr, append-nil}
+use Rattle.std.proofs.Common.{◌≡◌, ℕ, zero, suc, ◌+◌, ◌≤◌, Bool, true, false, ◌&&◌, ◌||◌, ◌⊎◌, List, [], ◌∷◌, ◌++◌, length, take, drop, map, Option, IsTrue, refl, sym, ap, subst, ◌∙◌, arith, inl, inr, append-nil}
 use Rattle.std.specs.Prelude.{if◌then◌else◌}
 use Rattle.std.specs.List.{list_all, list_any}
 use Rattle.std.proofs.lemmas.Bool.{cases_Bool}
@@ -13,7 +13,8 @@ use Rattle.jsonc_sound.specs.Rows as rows
 use Rattle.jsonc_sound.specs.Rows.{Last, RowKind}
 use Rattle.jsonc_sort.specs.Laws.{content_of}
 use Rattle.jsonc_sort.specs.Parts.{Part, Parts, comments_on_line, has_comma, is_comma_at, is_inline_trivia_at, is_newline_at, is_none, is_own_line, is_whitespace_at, line, part_with, parts, tail_length, through_comma, up_to_spaces}
-use Rattle.jsonc_sort.specs.Leads.{LeadParts, begins_group, first_line, header_length, lead_parts, parts_of_line, parts_of_lines, spaces, with_header}
+use Rattle.jsonc_sort.specs.Above.{PinUnderBlankLines, leads, leads_from, pins_none}
+use Rattle.jsonc_sort.specs.Leads.{LeadParts, begins_group, first_line, has_blank_line, header_length, lead_parts, parts_of_line, parts_of_lines, spaces, with_header}
 use Rattle.jsonc_sort.specs.Sorting.{Entry, Headers, end_of, entries, entries_from, first_pin, row_end}
 use Rattle.jsonc_sort.proofs.Choices.{choose, each_drop, each_joined, each_take}
 use Rattle.jsonc_sort.proofs.Entries.{AreParts, IsPart, IsRow}
@@ -26,6 +27,7 @@ use Rattle.jsonc_run.specs.texts.Entering.{StartsLine}
 use Rattle.jsonc_run.specs.texts.Sorting as sorting
 use Rattle.jsonc_run.specs.texts.Sorting.{Held, Ahead, Beside, AreHeld, AreEntries, row}
 use Rattle.jsonc_run.specs.promise.PlaceLaws.{node_chars}
+use Rattle.jsonc_run.proofs.lemmas.promise.SortedHeaders.{blank_leading, stays_above}
 use Rattle.jsonc_run.proofs.lemmas.promise.SortedParts.{AreTrivia, EndsNone, Lined, Spaces, any_none, any_there, comma_one, each_prefix, first_dropped, first_taken, inline_said, line_end_one, line_none, line_there, lined, none_ends, one_ends, say, say_cut, say_joined, spaces_last, spaces_said, trivia_joined, trivia_one, trivia_said}
 
 module _ (o : Options) (kind : RowKind) (top : ℕ → Top) where
@@ -39,8 +41,12 @@ module _ (o : Options) (kind : RowKind) (top : ℕ → Top) where
   say_ row = say top row
 
   -- what a lead prints, in its parts
-  abbrev AheadOf : (List ℕ → Type 0) → Bool → LeadParts → Type 0
-  AheadOf Rest lines l = Ahead Rest lines (say_ l.front) (say_ l.travels) (say_ l.indent)
+  abbrev AheadOf : (by_blank_lines : Bool) → (List ℕ → Type 0) → (lines : Bool) → LeadParts → Type 0
+  AheadOf by_blank_lines Rest lines l = Ahead by_blank_lines Rest lines (say_ l.front) (say_ l.travels) (say_ l.indent)
+
+  -- by the library's own rules comments are pinned only where a blank line is
+  abbrev Pinned : Bool → Option ℕ → List ℕ → Type 0
+  Pinned by_blank_lines pin lead = by_blank_lines ≡ true → IsTrue (pins_none pin || has_blank_line at lead)
 
   quiet_first : (xs ys : List ℕ) → AllQuiet (xs ++ ys) → AllQuiet xs
   quiet_first [] ys h = tt
@@ -51,8 +57,9 @@ module _ (o : Options) (kind : RowKind) (top : ℕ → Top) where
   quiet_second (x ∷ xs) ys h = quiet_second xs ys h.1
 
   -- where a line ends in a lead
-  lines_ahead : {Rest : List ℕ → Type 0} (xs more : List ℕ) (n : ℕ) → EndsNone at xs → is_newline_at at n ≡ true → AllQuiet (xs ++ n ∷ more) → Rest (say_ xs) → (groups : Bool) (pin : Option ℕ) → AheadOf Rest true (lead_parts at groups pin (xs ++ n ∷ more))
-  lines_ahead {Rest} xs more n h e q rest groups pin =
+  lines_ahead : {Rest : List ℕ → Type 0} (xs more : List ℕ) (n : ℕ) → EndsNone at xs → is_newline_at at n ≡ true → AllQuiet (xs ++ n ∷ more) → Rest (say_ xs)
+      → (by_blank_lines groups : Bool) (pin : Option ℕ) → Pinned by_blank_lines pin (xs ++ n ∷ more) → AheadOf by_blank_lines Rest true (lead_parts at groups pin (xs ++ n ∷ more))
+  lines_ahead {Rest} xs more n h e q rest by_blank_lines groups pin pinned =
       let lead : List ℕ = xs ++ n ∷ more in
       let begins : Bool = begins_group at groups lead in
       let behind : AllQuiet (n ∷ more) = quiet_second xs (n ∷ more) q in
@@ -63,16 +70,17 @@ module _ (o : Options) (kind : RowKind) (top : ℕ → Top) where
       let quiet_indent : AllQuiet (drop upto more) = each_drop (λ m. IsQuiet o kind top (top m)) upto more behind.1 in
       let front : say_ ((xs ++ n ∷ []) ++ take header above) ≡ say_ xs ++ (node_chars (top n) ++ say_ (take header above)) =
       ap say_ (append_assoc xs (n ∷ []) (take header above)) ∙ say_joined top xs (n ∷ take header above) in
-      let made : AheadOf Rest true (with_header at (xs ++ n ∷ []) header above (drop upto more)) =
-      subst (λ s. Ahead Rest true s (say_ (drop header above)) (say_ (drop upto more))) (sym front)
+      let made : AheadOf by_blank_lines Rest true (with_header at (xs ++ n ∷ []) header above (drop upto more)) =
+      subst (λ s. Ahead by_blank_lines Rest true s (say_ (drop header above)) (say_ (drop upto more))) (sym front)
       (sorting.on_lines rest (line_end_one o kind top (top n) behind.0 e)
       (trivia_said o kind top (take header above) (each_take (λ m. IsQuiet o kind top (top m)) header above quiet_above))
       (trivia_said o kind top (drop header above) (each_drop (λ m. IsQuiet o kind top (top m)) header above quiet_above))
-      (spaces_said o kind top (drop upto more) quiet_indent (spaces_last at more))) in
-      let cut : List ℕ → List ℕ → Type 0 = λ first rest. AheadOf Rest true (with_header at first (header_length at begins pin (take (up_to_spaces at rest) rest)) (take (up_to_spaces at rest) rest) (drop (up_to_spaces at rest) rest)) in
-      let of_lines : AheadOf Rest true (parts_of_lines at begins pin lead) =
+      (spaces_said o kind top (drop upto more) quiet_indent (spaces_last at more))
+      (stays_above o kind top lead more n e behind (blank_leading at xs (n ∷ more) h) groups pin by_blank_lines pinned)) in
+      let cut : List ℕ → List ℕ → Type 0 = λ first rest. AheadOf by_blank_lines Rest true (with_header at first (header_length at begins pin (take (up_to_spaces at rest) rest)) (take (up_to_spaces at rest) rest) (drop (up_to_spaces at rest) rest)) in
+      let of_lines : AheadOf by_blank_lines Rest true (parts_of_lines at begins pin lead) =
       subst (λ first. cut first (drop (first_line at lead) lead)) (sym (first_taken at n more e xs h)) (subst (cut (xs ++ n ∷ [])) (sym (first_dropped at n more e xs h)) made) in
-      subst (λ b. AheadOf Rest true (if b then parts_of_lines at begins pin lead else parts_of_line at lead)) (sym (any_there at n more e xs h)) of_lines
+      subst (λ b. AheadOf by_blank_lines Rest true (if b then parts_of_lines at begins pin lead else parts_of_line at lead)) (sym (any_there at n more e xs h)) of_lines
 
   -- where none does
   none_from : (k : ℕ) (row : List ℕ) → EndsNone at row → EndsNone at (drop k row)
@@ -81,21 +89,21 @@ module _ (o : Options) (kind : RowKind) (top : ℕ → Top) where
   prefix_spaces : (row : List ℕ) → Spaces at (take (spaces at row) row)
   prefix_spaces row = each_prefix (is_whitespace_at at) row (spaces at row) (omega arith)
 
-  line_ahead : {Rest : List ℕ → Type 0} (lead : List ℕ) → EndsNone at lead → AllQuiet lead → (groups : Bool) (pin : Option ℕ) → AheadOf Rest false (lead_parts at groups pin lead)
-  line_ahead {Rest} lead h q groups pin =
+  line_ahead : {Rest : List ℕ → Type 0} (lead : List ℕ) → EndsNone at lead → AllQuiet lead → (by_blank_lines groups : Bool) (pin : Option ℕ) → AheadOf by_blank_lines Rest false (lead_parts at groups pin lead)
+  line_ahead {Rest} lead h q by_blank_lines groups pin =
       let k : ℕ = spaces at lead in
-      let made : AheadOf Rest false (parts_of_line at lead) =
+      let made : AheadOf by_blank_lines Rest false (parts_of_line at lead) =
       sorting.on_one_line (spaces_said o kind top (take k lead) (each_take (λ m. IsQuiet o kind top (top m)) k lead q) (prefix_spaces lead))
       (inline_said o kind top (drop k lead) (each_drop (λ m. IsQuiet o kind top (top m)) k lead q) (none_from k lead h)) in
-      subst (λ b. AheadOf Rest false (if b then parts_of_lines at (begins_group at groups lead) pin lead else parts_of_line at lead)) (sym (any_none at lead h)) made
+      subst (λ b. AheadOf by_blank_lines Rest false (if b then parts_of_lines at (begins_group at groups lead) pin lead else parts_of_line at lead)) (sym (any_none at lead h)) made
 
   -- what stands before the first entry
-  first_ahead : (lead : List ℕ) → AllQuiet lead → (groups : Bool) (pin : Option ℕ) → (lines : Bool) × AheadOf InLine lines (lead_parts at groups pin lead)
-  first_ahead lead q groups pin = by (lined at lead) q
+  first_ahead : (lead : List ℕ) → AllQuiet lead → (by_blank_lines groups : Bool) (pin : Option ℕ) → Pinned by_blank_lines pin lead → (lines : Bool) × AheadOf by_blank_lines InLine lines (lead_parts at groups pin lead)
+  first_ahead lead q by_blank_lines groups pin pinned = by (lined at lead) q pinned
     where
-      by : {lead : List ℕ} → Lined at lead → AllQuiet lead → (lines : Bool) × AheadOf InLine lines (lead_parts at groups pin lead)
-      by {lead} (none_ends h) q = (false, line_ahead lead h q groups pin)
-      by (one_ends xs more n h e) q = (true, lines_ahead xs more n h e q (inline_said o kind top xs (quiet_first xs (n ∷ more) q) h) groups pin)
+      by : {lead : List ℕ} → Lined at lead → AllQuiet lead → Pinned by_blank_lines pin lead → (lines : Bool) × AheadOf by_blank_lines InLine lines (lead_parts at groups pin lead)
+      by {lead} (none_ends h) q p = (false, line_ahead lead h q by_blank_lines groups pin)
+      by (one_ends xs more n h e) q p = (true, lines_ahead xs more n h e q (inline_said o kind top xs (quiet_first xs (n ∷ more) q) h) by_blank_lines groups pin p)
 
   -- up to the comma behind an entry
   more_before : (s : List ℕ) {x : List ℕ} → AreTrivia s → Beside false true x → Beside false true (s ++ x)
@@ -194,7 +202,7 @@ module _ (o : Options) (kind : RowKind) (top : ℕ → Top) where
   record Next (rest : List ℕ) (k : ℕ) : Type 0 where
     lines : Bool
     beside : {comma : Bool} {s : List ℕ} → Beside false comma s → Beside lines comma (s ++ say_ (take k rest))
-    ahead : (groups : Bool) (pin : Option ℕ) → AheadOf AreSpaces lines (lead_parts at groups pin (drop k rest))
+    ahead : (by_blank_lines groups : Bool) (pin : Option ℕ) → Pinned by_blank_lines pin (drop k rest) → AheadOf by_blank_lines AreSpaces lines (lead_parts at groups pin (drop k rest))
 
   next : (rest : List ℕ) → AllQuiet rest → Next rest (comments_on_line at false rest)
   next rest q = by (lined at rest) q
@@ -205,7 +213,7 @@ module _ (o : Options) (kind : RowKind) (top : ℕ → Top) where
           (record {
             lines = false;
             beside = λ {comma} {s} b. subst (Beside false comma) (sym (append-nil s)) b;
-            ahead = line_ahead rest h q;
+            ahead = λ by_blank_lines groups pin pinned. line_ahead rest h q by_blank_lines groups pin;
           })
       by (one_ends xs more n h e) q =
           let rest : List ℕ = xs ++ n ∷ more in
@@ -220,8 +228,8 @@ module _ (o : Options) (kind : RowKind) (top : ℕ → Top) where
           (record {
             lines = true;
             beside = λ {comma} {s} b. subst (λ l. Beside true comma (s ++ say_ l)) (sym front) (sorting.and_line b line_text);
-            ahead = λ groups pin. subst (λ l. AheadOf AreSpaces true (lead_parts at groups pin l)) (sym back)
-                (lines_ahead (drop k xs) more n (none_from k xs h) e behind (spaces_said o kind top (drop k xs) gone (spaces_last at xs)) groups pin);
+            ahead = λ by_blank_lines groups pin pinned. subst (λ l. AheadOf by_blank_lines AreSpaces true (lead_parts at groups pin l)) (sym back)
+                (lines_ahead (drop k xs) more n (none_from k xs h) e behind (spaces_said o kind top (drop k xs) gone (spaces_last at xs)) by_blank_lines groups pin (subst (Pinned by_blank_lines pin) back pinned));
           })
 
   -- and behind that of the last
@@ -322,30 +330,36 @@ module _ (o : Options) (kind : RowKind) (top : ℕ → Top) where
   abbrev pub held_of : Entry → Held
   held_of e = record { stays = say_ e.lead.front; above = say_ e.lead.travels; indent = say_ e.lead.indent; own = node_chars (top e.element); beside = say_ e.tail; comma = has_comma at e.tail }
 
-  all_held : (groups : Bool) (pins : List (Option ℕ)) (lead : List ℕ) (part : Part) (rest : List Part) → AreParts o kind top (part ∷ rest) → AreCut (part ∷ rest)
-      → AreHeld (map held_of (entries_from at groups pins lead (part ∷ rest))) (say_ (end_of part.behind rest))
-  all_held groups pins lead part [] h c =
+  abbrev AllPinned : Bool → List (Option ℕ) → List (List ℕ) → Type 0
+  AllPinned by_blank_lines pins leads = by_blank_lines ≡ true → PinUnderBlankLines at pins leads
+
+  all_held : (by_blank_lines groups : Bool) (pins : List (Option ℕ)) (lead : List ℕ) (part : Part) (rest : List Part) → AreParts o kind top (part ∷ rest) → AreCut (part ∷ rest) → AllPinned by_blank_lines (drop 1 pins) (leads_from part.behind rest)
+      → AreHeld by_blank_lines (map held_of (entries_from at groups pins lead (part ∷ rest))) (say_ (end_of part.behind rest))
+  all_held by_blank_lines groups pins lead part [] h c pinned =
       let e = ended (rest true part h.0 c.0) (quiet_rest true part h.0 c.0) in
-      subst (λ x. AreHeld (map held_of (entries_from at groups pins lead (part ∷ []))) x) (sym (ap say_ (behind_is true part h.0 c.0) ∙ e.behind))
+      subst (λ x. AreHeld by_blank_lines (map held_of (entries_from at groups pins lead (part ∷ []))) x) (sym (ap say_ (behind_is true part h.0 c.0) ∙ e.behind))
       (sorting.last (subst (Beside true (has_comma at part.tail)) (sym (tail_said true part h.0 c.0)) (sorting.and_line (before true part h.0 c.0) e.beside)) e.spaces_ e.line_)
-  all_held groups pins lead part (other ∷ others) h c =
+  all_held by_blank_lines groups pins lead part (other ∷ others) h c pinned =
       let n = next (rest false part h.0 c.0) (quiet_rest false part h.0 c.0) in
+      let pin : Option ℕ = first_pin (drop 1 pins) in
       sorting.before n.lines
       (subst (Beside n.lines (has_comma at part.tail)) (sym (tail_said false part h.0 c.0)) (n.beside (before false part h.0 c.0)))
-      (subst (λ l. AheadOf AreSpaces n.lines (lead_parts at groups (first_pin (drop 1 pins)) l)) (sym (behind_is false part h.0 c.0)) (n.ahead groups (first_pin (drop 1 pins))))
-      (all_held groups (drop 1 pins) part.behind other others h.1 c.1)
+      (subst (λ l. AheadOf by_blank_lines AreSpaces n.lines (lead_parts at groups pin l)) (sym (behind_is false part h.0 c.0)) (n.ahead by_blank_lines groups pin (subst (Pinned by_blank_lines pin) (behind_is false part h.0 c.0) (λ e. (pinned e).0))))
+      (all_held by_blank_lines groups (drop 1 pins) part.behind other others h.1 c.1 (λ e. (pinned e).1))
 
-  pub are_entries : (h : Headers) (row : List ℕ) → IsRow o kind top rows.nothing_yet (parts at row) → AreEntries (map held_of (entries at h row)) (say_ (row_end at row))
-  are_entries h row r = by (parts at row).rest r.rest (cut_parts row)
+  pub are_entries : (by_blank_lines : Bool) (h : Headers) (row : List ℕ) → AllPinned by_blank_lines h.pinned (leads at row) → IsRow o kind top rows.nothing_yet (parts at row)
+      → AreEntries by_blank_lines (map held_of (entries at h row)) (say_ (row_end at row))
+  are_entries by_blank_lines h row pinned r = by (parts at row).rest r.rest (cut_parts row) pinned
     where
       quiet : AllQuiet (parts at row).lead
       quiet = (quiet_gap o kind top tt r.lead).0
 
-      by : (rest : List Part) → AreParts o kind top rest → AreCut rest → AreEntries (map held_of (entries_from at h.groups h.pinned (parts at row).lead rest)) (say_ (end_of (parts at row).lead rest))
-      by [] a c = sorting.no_entries
-      by (part ∷ rest) a c =
-          let ahead = first_ahead (parts at row).lead quiet h.groups (first_pin h.pinned) in
-          sorting.entries ahead.0 ahead.1 (all_held h.groups h.pinned (parts at row).lead part rest a c)
+      by : (rest : List Part) → AreParts o kind top rest → AreCut rest → AllPinned by_blank_lines h.pinned (leads_from (parts at row).lead rest)
+          → AreEntries by_blank_lines (map held_of (entries_from at h.groups h.pinned (parts at row).lead rest)) (say_ (end_of (parts at row).lead rest))
+      by [] a c p = sorting.no_entries
+      by (part ∷ rest) a c p =
+          let ahead = first_ahead (parts at row).lead quiet by_blank_lines h.groups (first_pin h.pinned) (λ e. (p e).0) in
+          sorting.entries ahead.0 ahead.1 (all_held by_blank_lines h.groups h.pinned (parts at row).lead part rest a c (λ e. (p e).1))
 
   -- their text is the row's
   abbrev flat : List Part → List ℕ

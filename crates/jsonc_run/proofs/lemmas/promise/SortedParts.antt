@@ -190,7 +190,7 @@ module _ (o : Options) (kind : RowKind) (top : ℕ → Top) where
       is (Content.comment s) h e = refl
       is c h e = absurd h
 
-  spaces_one : (t : Top) → Quiet t → is_whitespace t.content ≡ true → AreSpaces (node_chars t)
+  pub spaces_one : (t : Top) → Quiet t → is_whitespace t.content ≡ true → AreSpaces (node_chars t)
   spaces_one t q e = subst AreSpaces (sym (one_text t q.bare)) (is t.content q.trivia e)
     where
       is : (c : Content) → IsTrivia o c → is_whitespace c ≡ true → AreSpaces (text_of_leaves (c ∷ []))

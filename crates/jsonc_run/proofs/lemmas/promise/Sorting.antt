@@ -39,7 +39,7 @@ use Rattle.jsonc_sort.specs.Parts.{parts}
 use Rattle.jsonc_sort.specs.Sorting as sorts
 use Rattle.jsonc_sort.specs.Sorting.{Entry, entries, entry_at, is_unchanged, lines_ended, row_end, slot_content}
 use Rattle.jsonc_sort.specs.Laws.{Sort, SortsEntries, sorts_items, sorts_members, IsOrderOf, container_before, container_after, content_of, closed, slots_of, item_at, items_in, name_at, value_at, members_in}
-use Rattle.jsonc_sort.specs.Paths.{SortedAt}
+use Rattle.jsonc_sort.specs.Paths.{PinsIn, SortedAt}
 use Rattle.jsonc_sort.proofs.Choices.{Each, all_moved, each_moved}
 use Rattle.jsonc_sort.proofs.Entries.{IsEntry, IsRow, entries_in, row_moves}
 use Rattle.jsonc_sort.proofs.OldRows.{row_is}
@@ -244,8 +244,8 @@ module _ (o : Options) (kind : RowKind) (top : ℕ → Top) where
         subst (λ l. HasEntries o l (texts_of (closed kind top slots)) B) text (has_entries o kind B place.2),
       )
 
-module _ (o : Options) {t u : OrderedTree} {x y : Plain} (path order : List ℕ) (s : SoundTree o t) (r : SoundTree o u) (h : DocumentValueOf o t (Some x)) (k : DocumentValueOf o u (Some y))
-    (m : (test : tree_marks.Mark → Bool) → count_by test (tree_marks.marks u) ≡ count_by test (tree_marks.marks t)) (a : SortedAt path order t u) where
+module _ (o : Options) {t u : OrderedTree} {x y : Plain} (by_blank_lines : Bool) (path order : List ℕ) (s : SoundTree o t) (r : SoundTree o u) (h : DocumentValueOf o t (Some x)) (k : DocumentValueOf o u (Some y))
+    (m : (test : tree_marks.Mark → Bool) → count_by test (tree_marks.marks u) ≡ count_by test (tree_marks.marks t)) (a : SortedAt path order t u) (pinned : by_blank_lines ≡ true → PinsIn a) where
   abbrev old_texts : List (List ℕ)
   old_texts = texts_of (closed a.kind a.top (all_stay a.sort.row))
 
@@ -345,7 +345,7 @@ module _ (o : Options) {t u : OrderedTree} {x y : Plain} (path order : List ℕ)
         (subst (λ ts. Holds path (kind_of_row kind) ts (text_of_leaves (front_of (flip a.changed))) (said top (slots_of top a.sort)) (text_of_leaves (back_of (flip a.changed))) (document_of o u (Some y))) new_texts
         (holds_so o kind top (slots_of top a.sort) r (flip a.changed) (Some y) (said top (slots_of top a.sort)) refl)))
 
-    moves : Moves (kind_of_row kind) path a.sort.order (document_of o t (Some x)) (document_of o u (Some y))
+    moves : Moves by_blank_lines (kind_of_row kind) path a.sort.order (document_of o t (Some x)) (document_of o u (Some y))
     moves = (
       holds,
       text_of_leaves (front_of a.changed),
@@ -353,7 +353,7 @@ module _ (o : Options) {t u : OrderedTree} {x y : Plain} (path order : List ℕ)
       placed_text,
       said top (slots_of top a.sort),
       text_of_leaves (back_of a.changed),
-      are_entries o kind top a.sort.headers a.sort.row row_parts,
+      are_entries o kind top by_blank_lines a.sort.headers a.sort.row pinned row_parts,
       old_holds,
       new_holds,
       placed_so,
@@ -361,7 +361,7 @@ module _ (o : Options) {t u : OrderedTree} {x y : Plain} (path order : List ℕ)
     )
 
   abbrev Outcome : places.Kind → List ℕ → Type 0
-  Outcome kind order = ((order ≡ range_with_len 0 (length order)) × (printed_text u ≡ printed_text t)) ⊎ ((order ≢ range_with_len 0 (length order)) × Moves kind path order (document_of o t (Some x)) (document_of o u (Some y)))
+  Outcome kind order = ((order ≡ range_with_len 0 (length order)) × (printed_text u ≡ printed_text t)) ⊎ ((order ≢ range_with_len 0 (length order)) × Moves by_blank_lines kind path order (document_of o t (Some x)) (document_of o u (Some y)))
 
   outcome : Outcome (kind_of_row a.kind) order
   outcome =
@@ -376,7 +376,7 @@ module _ (o : Options) {t u : OrderedTree} {x y : Plain} (path order : List ℕ)
   outcome_as : (k : places.Kind) → k ≡ kind_of_row a.kind → Outcome k order
   outcome_as k e = subst (λ k. Outcome k order) (sym e) outcome
 
-  pub sorted_so : SortsEntries path order x y → Makes (document_of o t (Some x)) (texts.rearrange path order) (document_of o u (Some y))
+  pub sorted_so : SortsEntries path order x y → Makes (document_of o t (Some x)) (texts.rearrange by_blank_lines path order) (document_of o u (Some y))
   sorted_so (sorts_items {vs = vs} c) =
       let entries : List Named = list_of_items vs in (
         an_array,
@@ -396,6 +396,6 @@ module _ (o : Options) {t u : OrderedTree} {x y : Plain} (path order : List ℕ)
         outcome_as an_object (sym (object_row a.kind held.had (value_once at_path c))),
       )
 
-pub rearranged : (o : Options) (t u : OrderedTree) (w x : Option Plain) (path order : List ℕ) → SoundTree o t → SoundTree o u → DocumentValueOf o t w → DocumentValueOf o u x → IsChanged w (texts.rearrange path order) x
-    → ((test : tree_marks.Mark → Bool) → count_by test (tree_marks.marks u) ≡ count_by test (tree_marks.marks t)) → SortedAt path order t u → Makes (document_of o t w) (texts.rearrange path order) (document_of o u x)
-rearranged o t u _ _ path order s r h k (by_sorting e) m a = sorted_so o path order s r h k m a e
+pub rearranged : (o : Options) (t u : OrderedTree) (w x : Option Plain) (by_blank_lines : Bool) (path order : List ℕ) → SoundTree o t → SoundTree o u → DocumentValueOf o t w → DocumentValueOf o u x → IsChanged w (texts.rearrange by_blank_lines path order) x
+    → ((test : tree_marks.Mark → Bool) → count_by test (tree_marks.marks u) ≡ count_by test (tree_marks.marks t)) → (a : SortedAt path order t u) → (by_blank_lines ≡ true → PinsIn a) → Makes (document_of o t w) (texts.rearrange by_blank_lines path order) (document_of o u x)
+rearranged o t u _ _ by_blank_lines path order s r h k (by_sorting e) m a pinned = sorted_so o by_blank_lines path order s r h k m a pinned e
