@@ -1,5 +1,5 @@
 -- What is said of a text when an entry comes into a row, or when the row is put on several lines.
-use Rattle.std.specs.Prelude.{ℕ, ◌≡◌, ◌≢◌, ◌⊎◌, Bool, true, false, List, [], ◌∷◌, ◌++◌, length, IsTrue}
+use Rattle.std.specs.Prelude.{ℕ, ◌≡◌, ◌≢◌, ◌⊎◌, Bool, true, false, not, List, [], ◌∷◌, ◌++◌, length, IsTrue}
 use Rattle.jsonc_text.specs.Options.{Options}
 use Rattle.jsonc_text.specs.Text.{is_line_end}
 use Rattle.jsonc_text.specs.Gaps.{Gap, is_blank}
@@ -59,20 +59,47 @@ EndsLine s = (blanks r : List ℕ) × (s ≡ blanks ++ r) × AreBlanks blanks ×
 abbrev pub LineEnds : List ℕ → Type 0
 LineEnds s = (r : List ℕ) × OnLine s r × StartsLine r
 
+-- entries, blanks and comments, of which no blank ends a line, and no comma between the entries, and then r
+pub data OneLine (o : Options) (kind : Kind) : List ℕ → List ℕ → Type 0 where
+  leads : {t r : List ℕ} → OnLine t r → OneLine o kind t r
+  past_entry : {t u w r : List ℕ} → OnLine t u → IsEntry o kind u w → OneLine o kind w r → OneLine o kind t r
+
+-- t is the end of a line and an indent, and then r
+abbrev pub LineThen : List ℕ → List ℕ → Type 0
+LineThen t r = (line indent : List ℕ) × (t ≡ line ++ (indent ++ r)) × IsLineEnd line × AreSpaces indent
+
+-- From t on, which stands behind the first bracket or a comma, to the last bracket, and then r: a line ends there at once, and none else ends in the part, through its
+-- comma. Behind the last part, if anything stands in it, one more ends, and its bracket is alone on a line.
+pub data BeginLines (o : Options) (kind : Kind) : List ℕ → List ℕ → Type 0 where
+  one_part : {t s u r : List ℕ} → LineThen t s → OneLine o kind s (0x2C ∷ u) → BeginLines o kind u r → BeginLines o kind t r
+  last_part : {c : ℕ} {t s u r : List ℕ} → LineThen t (c ∷ s) → IsTrue (not (is_blank c)) → OneLine o kind (c ∷ s) u → LineThen u (closing kind ∷ r)
+      → BeginLines o kind t r
+  no_part : {t r : List ℕ} → LineThen t (closing kind ∷ r) → BeginLines o kind t r
+
+-- each part of the container at the path, through its comma, is on a line of its own, and so is its last bracket
+abbrev pub IsOnLines : List ℕ → Document → Type 0
+IsOnLines path e = (kind : Kind) × (r x : List ℕ) × Value path e.options e.text (opening kind ∷ x) r × BeginLines e.options kind x r
+
 -- between brackets, behind the first of which u stands, t stands directly behind that, or directly behind a comma between the entries
 pub data Begins (o : Options) (kind : Kind) (u : List ℕ) : (by_comma : Bool) → (t : List ℕ) → Type 0 where
   at_bracket : Begins o kind u false u
   at_comma : {t : List ℕ} → Along o kind u (0x2C ∷ t) → Begins o kind u true t
 
+-- what is written between two pieces of a row: nothing, one space, or the end of a line and an indent
+pub data Spacing : List ℕ → Type 0 where
+  nothing : Spacing []
+  a_space : Spacing (0x20 ∷ [])
+  a_line : {line indent : List ℕ} → IsLineEnd line → AreSpaces indent → Spacing (line ++ indent)
+
 -- An entry with this text comes between others, those that stand before it and those that follow, before the rest. All around it stays but blanks directly inside of
--- the brackets; at most a comma comes before it, directly behind an entry, and blanks, and behind it a comma and blanks. A gap leads to it from the first bracket or
--- a comma of the row whose line does not end there, which is these blanks alone. Or, where a line ends directly before it, comments on the comma's line are part of that, and with them that line ended. Or it
+-- the brackets; at most a comma comes before it, directly behind an entry, and spacing, and behind it a comma and spacing. A gap leads to it from the first bracket or
+-- a comma of the row whose line does not end there, which is this spacing alone. Or, where a line ends directly before it, comments on the comma's line are part of that, and with them that line ended. Or it
 -- is the only entry, and the gap is trivia on the bracket's line, or a line ends directly before it. Where no comma comes behind it a gap leads from there to the last
 -- bracket; where one comes, entries follow, or a line ends directly before it. From the only entry blanks alone lead to the last bracket.
 abbrev pub Joins : Kind → List ℕ → (before follow : List (List ℕ)) → (new rest : List ℕ) → Document → Document → Type 0
 Joins kind path before follow new rest d e = (spread shorter front led gap comma behind back : List ℕ) × Spreads kind path d spread × Trims kind spread shorter × Trims kind shorter (front ++ back)
-    × Led d.options kind (gap ++ (new ++ rest)) front led × AreBlanks gap
-    × (((comma ≡ 0x2C ∷ []) × ((follow ≢ []) ⊎ StartsLine gap)) ⊎ ((comma ≡ []) × (r : List ℕ) × Gap d.options back (closing kind ∷ r))) × AreBlanks behind
+    × Led d.options kind (gap ++ (new ++ rest)) front led × Spacing gap
+    × (((comma ≡ 0x2C ∷ []) × ((follow ≢ []) ⊎ StartsLine gap)) ⊎ ((comma ≡ []) × (r : List ℕ) × Gap d.options back (closing kind ∷ r))) × Spacing behind
     × NoCommaComes d.options back × (e.text ≡ led ++ (gap ++ (new ++ rest))) × (rest ≡ comma ++ (behind ++ back))
     × (x t u r : List ℕ) × (by_comma : Bool) × (led ≡ x ++ t) × Value path e.options e.text (opening kind ∷ u) r
     × Begins e.options kind u by_comma (t ++ (gap ++ (new ++ rest))) × Gap d.options (t ++ (gap ++ (new ++ rest))) (new ++ rest)

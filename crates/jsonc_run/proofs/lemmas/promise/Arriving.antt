@@ -50,7 +50,7 @@ use Rattle.jsonc_run.proofs.lemmas.promise.Stretches.{marks_in, marks_in_both, p
 use Rattle.jsonc_sound.specs.Documents.{all_marks, document_of}
 use Rattle.jsonc_run.proofs.lemmas.promise.Values.{at_the_place, node_leaves}
 use Rattle.jsonc_run.proofs.lemmas.promise.Insides.{as_many, comma_comes, gap_trivia, goes_on, inside_so, texts_followed, texts_past}
-use Rattle.jsonc_run.proofs.lemmas.promise.Joined.{EntriesOf, Good, none_behind, bracket_follows, close_text, gap_blanks, good_as, good_first, good_second, good_tree, led_so, lines_behind, lines_past, lines_trimmed, no_comma_closes, one_token, onward, open_text, past_some, past_stretch, with_row}
+use Rattle.jsonc_run.proofs.lemmas.promise.Joined.{EntriesOf, Good, none_behind, bracket_follows, close_text, good_as, good_first, good_second, good_tree, led_so, lines_behind, lines_past, lines_trimmed, no_comma_closes, one_token, onward, open_text, past_some, past_stretch, spacing_text, with_row}
 use Rattle.jsonc_sound.proofs.RowParts.{at_comma, beside_trivia, leaves_followed, parted_at}
 use Rattle.jsonc_sound.proofs.RowParts as row_parts
 use Rattle.jsonc_sound.proofs.RootRows.{joined_trivia, leaves_then_joined}
@@ -639,9 +639,9 @@ module _ (o : Options) (kind : RowKind) (row middle kept new : OrderedTree) {pat
           l.last,
           subst (entering.Trims k l.shorter) (kept_text l.good) l.first,
           led_so o kind F B comma_mark (text_of_leaves gap ++ (node_chars top ++ rest)) (comma_entry rest e) c g_led,
-          blanks_text o gap (gap_blanks g) (good_first o gap (own ++ leaves behind) g1).pieces,
+          spacing_text g (good_first o gap (own ++ leaves behind) g1).utf8,
           follows,
-          blanks_text o n.gap n.are (good_first o n.gap (leaves back) (good_second o n.leaf (n.gap ++ leaves back) (good_as o n.parts g3))).pieces,
+          spacing_text n.spaced (good_first o n.gap (leaves back) (good_second o n.leaf (n.gap ++ leaves back) (good_as o n.parts g3))).utf8,
           not_next,
           new_text ∙ ap (with_row o kind F B) row_text ∙ join_regroup (places.opening k) (places.closing k) F (text_of_leaves (leaves led)) (text_of_leaves gap) (node_chars top) (text_of_leaves (leaves behind)) B
               ∙ ap (λ y. (F ++ (places.opening k ∷ text_of_leaves (leaves led))) ++ (text_of_leaves gap ++ (node_chars top ++ y))) (sym e),

@@ -1,7 +1,7 @@
 -- Where an entry comes into a container of a sound tree, all around it stays in the text but blanks directly inside of the brackets.
-use Rattle.std.proofs.Common.{ℕ, ◌≡◌, ◌≢◌, ◌∙◌, ◌⊎◌, inl, inr, sym, ap, subst, refl, Bool, true, false, not, ◌==◌, List, [], ◌∷◌, ◌++◌, IsTrue, chars, encode_utf8}
+use Rattle.std.proofs.Common.{ℕ, ◌≡◌, ◌≢◌, ◌∙◌, ◌⊎◌, inl, inr, sym, ap, subst, refl, Bool, true, false, not, ◌==◌, List, [], ◌∷◌, ◌++◌, IsTrue, chars, encode_utf8, rules}
 use Rattle.std.proofs.lemmas.List.{append_assoc, append-nil}
-use Rattle.std.proofs.lemmas.Str.{chars-nil}
+use Rattle.std.proofs.lemmas.Str.{chars-nil, chars-IsAscii}
 use Rattle.jsonc_text.specs.Options.{Options}
 use Rattle.jsonc_text.specs.Text as many
 use Rattle.jsonc_run.specs.texts.Paths as places
@@ -33,7 +33,7 @@ use Rattle.jsonc_run.specs.promise.PlaceLaws.{text_of_leaves}
 use Rattle.jsonc_run.specs.texts.Stretches as documents
 use Rattle.jsonc_run.specs.texts.Entering as entering
 use Rattle.jsonc_run.specs.texts.Stretches.{Without}
-use Rattle.jsonc_run.specs.texts.Entering.{Led, Trims}
+use Rattle.jsonc_run.specs.texts.Entering.{Led, Spacing, Trims}
 use Rattle.jsonc_run.proofs.lemmas.promise.CommaTexts.{all_same, same_before}
 use Rattle.jsonc_run.proofs.lemmas.promise.CommentTexts.{blanks_text}
 use Rattle.jsonc_run.proofs.lemmas.promise.Leaves.{document_utf8, text_joined, utf8_first, utf8_joined, utf8_second}
@@ -260,6 +260,14 @@ module _ (o : Options) (kind : RowKind) (F B : List ℕ) where
       (subst (Led o k r ((F ++ (places.opening k ∷ before)) ++ (entry ++ behind))) (sym (ap (λ l. F ++ (places.opening k ∷ l)) now_text ∙ led_regroup (places.opening k) F before (entry ++ (0x2C ∷ behind))))
       (entering.with_comma (F ++ (places.opening k ∷ before)) entry (entries f last beside refl h trivia) (beside_text o beside b g2.pieces)))
 
+-- what is written between two nodes is so in the text
+pub spacing_text : {b : Bool} {gap : List Content} → Gap b gap → AllUtf8 gap → Spacing (text_of_leaves gap)
+spacing_text coming.nothing u = subst Spacing (sym chars-nil) entering.nothing
+spacing_text coming.a_space u = subst Spacing (sym (chars-IsAscii (0x20 ∷ []) (search rules))) entering.a_space
+spacing_text (coming.a_line {k = n} {s = s} i) u =
+    subst Spacing (sym (text_joined (newline n ∷ []) (whitespace s ∷ []) (u.0, tt)))
+    (entering.a_line (line_end_text n) (subst documents.AreSpaces (sym (ap chars (append-nil s))) i.1))
+
 -- behind the new entry
 pub gap_blanks : {b : Bool} {gap : List Content} → Gap b gap → AreBlanks gap
 gap_blanks coming.nothing = tt
@@ -324,7 +332,7 @@ pub record Onward (o : Options) (before : List Content) (back : OrderedTree) (be
   pub leaf : List Content
   pub gap : List Content
   pub one : ((comma ≡ 0x2C ∷ []) × ((element_count back ≢ 0) ⊎ Gap true before)) ⊎ ((comma ≡ []) × (element_count back ≡ 0))
-  pub are : AreBlanks gap
+  pub spaced : Gap false gap
   pub text : text_of_leaves leaf ≡ comma
   pub parts : leaves behind ≡ leaf ++ (gap ++ leaves back)
   pub rows : (z : List ℕ) (kind : places.Kind) (c : ℕ) → Reads o kind z (followed_by behind (token_then c none)) → LinesEndLoosely true false (followed_by behind (token_then c none)) → Reads o kind z (followed_by back (token_then c none)) × LinesEndLoosely true false (followed_by back (token_then c none))
@@ -335,7 +343,7 @@ onward o m {back = back} (coming.elements_follow gap g n) = record {
   leaf = token 0x2C ∷ [];
   gap = gap;
   one = inl (refl, inl n);
-  are = gap_blanks g;
+  spaced = g;
   text = one_token m;
   parts = ap (λ l. token 0x2C ∷ l) (front_leaves gap back (blanks_trivia gap (gap_blanks g)));
   rows = λ z kind c r l.
@@ -349,7 +357,7 @@ onward o m {back = back} (coming.none_follow gap g n) = record {
   leaf = [];
   gap = gap;
   one = inr (refl, n);
-  are = gap_blanks g;
+  spaced = g;
   text = chars-nil;
   parts = front_leaves gap back (blanks_trivia gap (gap_blanks g));
   rows = λ z kind c r l.
@@ -361,7 +369,7 @@ onward o m {back = back} (coming.comma_last x b n) = record {
   leaf = token 0x2C ∷ [];
   gap = [];
   one = inl (refl, inr b);
-  are = tt;
+  spaced = coming.nothing;
   text = one_token m;
   parts = refl;
   rows = λ z kind c r l. (past_some o kind z (token 0x2C ∷ []) (followed_by back (token_then c none)) (some_row back c) r, l.2);

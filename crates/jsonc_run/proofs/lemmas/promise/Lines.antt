@@ -28,8 +28,8 @@ use Rattle.jsonc_run.specs.Written.{IsChanged, by_lines, by_commas, IsChangedAt}
 use Rattle.jsonc_run.specs.texts.Stretches as documents
 use Rattle.jsonc_run.specs.texts.Edits as texts
 use Rattle.jsonc_run.specs.texts.Stretches.{Inside, Without, is_space}
-use Rattle.jsonc_run.specs.texts.Entering.{HasLineEnd}
-use Rattle.jsonc_run.specs.texts.Edits.{Commas, IsOnLines, Makes, SetsCommas, sets_some}
+use Rattle.jsonc_run.specs.texts.Entering.{HasLineEnd, IsOnLines}
+use Rattle.jsonc_run.specs.texts.Edits.{Commas, Makes, SetsCommas, sets_some}
 use Rattle.jsonc_sound.specs.Leaves.{is_inner_blank}
 use Rattle.std.proofs.lemmas.Str.{chars-nil}
 use Rattle.std.proofs.lemmas.List.{append-nil}

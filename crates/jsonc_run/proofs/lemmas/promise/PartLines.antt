@@ -33,8 +33,8 @@ use Rattle.jsonc_run.specs.texts.Paths as places
 use Rattle.jsonc_run.specs.texts.Paths.{Kind, Value}
 use Rattle.jsonc_run.specs.texts.Stretches.{AreSpaces, IsLineEnd}
 use Rattle.jsonc_run.specs.texts.Commenting.{OnLine, there, past_blank, past_comment}
-use Rattle.jsonc_run.specs.texts.Edits as texts
-use Rattle.jsonc_run.specs.texts.Edits.{BeginLines, IsOnLines, LineThen, OneLine}
+use Rattle.jsonc_run.specs.texts.Entering as texts
+use Rattle.jsonc_run.specs.texts.Entering.{BeginLines, IsOnLines, LineThen, OneLine}
 use Rattle.jsonc_run.specs.promise.PlaceLaws.{text_of_leaves}
 use Rattle.jsonc_run.proofs.lemmas.promise.Leaves.{back_of}
 use Rattle.jsonc_run.proofs.lemmas.promise.LacksLines.{NoLineComments}
