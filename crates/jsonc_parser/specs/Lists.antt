@@ -1,11 +1,14 @@
 -- What a list of edits makes of a document.
-use Rattle.std.specs.Prelude.{◌≡◌, ℕ, Bool, List, [], ◌∷◌, Some, take}
+use Rattle.std.specs.Prelude.{◌≡◌, ◌⊎◌, ℕ, Bool, List, [], ◌∷◌, Some, chars, length, take}
 use Rattle.std.specs.List.{slice_get}
 use Rattle.std.specs.declared.cmp.Ordering.{Ordering}
 use denote.Ref.{Bor}
 use denote.Param.Members.{Shared}
 use Rattle.jsonc_tree.specs.Tree.{Node, IsTree}
+use Rattle.jsonc_text.specs.Options.{Options}
 use Rattle.jsonc_text.specs.declared.edit.EditError.{EditError}
+use Rattle.jsonc_text.specs.declared.edit.EditError.TheVariants.{OutOfMemory}
+use Rattle.jsonc_sound.specs.Documents.{ShowsText}
 use Rattle.jsonc_sort.specs.Rearranged.{headers_of}
 use Rattle.jsonc_run.specs.declared.edit.Edit.{Edit}
 use Rattle.jsonc_run.specs.declared.edit.Edit.TheVariants.{Sort}
@@ -15,11 +18,13 @@ use Rattle.jsonc_run.specs.Refusals.{IsLeft, IsTooDeep, FailsWith}
 use Rattle.jsonc_run.specs.promise.Asked.{EditsTheText, StopsInText}
 use Rattle.jsonc_cst.specs.declared.cst.CstRootNode.{CstRootNode}
 use Rattle.jsonc_cst.specs.declared.cst.node.CstNode.{CstNode}
-use Rattle.jsonc_cst.specs.Document.{nodes_of, tree_of, HasNode}
+use Rattle.jsonc_cst.specs.Document.{nodes_of, tree_of, HasNode, LiesIn}
 use Rattle.jsonc_cst.specs.Nodes.{typed_at}
 use Rattle.jsonc_cst.specs.sorting.Asking.{IsInItsOrder}
 use Rattle.jsonc_cst.specs.sorting.Pins.{pins_where}
 use Rattle.jsonc_cst.specs.sorting.Rows.{elements_asked, starts_of}
+use Rattle.jsonc_parser.specs.declared.cst.texts.EditTextError.{EditTextError}
+use Rattle.jsonc_parser.specs.declared.cst.texts.EditTextError.TheVariants as text_error
 
 -- a comparison of two nodes of a document
 module _ {C D A : Type 0} (call : Shared C (Bor D × (CstNode × (CstNode × Unit {0}))) Ordering) (compare : C) (same : CstRootNode A → D) where
@@ -74,6 +79,12 @@ module _ {C D A : Type 0} (call : Shared C (Bor D × (CstNode × (CstNode × Uni
     pub error : (s : Sorting) → FailsWith (nodes_of now) (operation_of s next) why
     pub left : (s : Sorting) → IsLeft (nodes_of now) (operation_of s next) (nodes_of new)
     pub edited : StopsInText (tree_of old) edits k why (tree_of new)
+
+  -- Where the edits of a text stop in the document that it is parsed into: before one that is refused there; or all were made, and there was no memory for the text.
+  abbrev pub StopsInDocument : Options → List ℕ → List (Edit A) → EditTextError → Type 0
+  StopsInDocument o text edits (text_error.Parse fault) = Unit {0}
+  StopsInDocument o text edits (text_error.Edit k why) = (old new : CstRootNode A) × ShowsText o (chars text) (tree_of old) × LiesIn o text (tree_of old)
+      × (((k ≡ length edits) × (why ≡ OutOfMemory)) ⊎ RunErr old edits k why new)
 
 module _ {A : Type 0} where
   -- each operation is what its edit asks for; where that sorts, in some order

@@ -25,7 +25,7 @@ use Rattle.jsonc_cst.specs.declared.cst.node.CstContainerNode.TheVariants.{Root,
 use Rattle.jsonc_cst.specs.declared.cst.node.CstLeafNode.TheVariants.{BooleanLit, NullKeyword, NumberLit, StringLit, WordLit, Token, Whitespace, Newline, Comment}
 use Rattle.jsonc_cst.specs.declared.cst.node.CstNode.TheVariants.{Container, Leaf}
 use Rattle.jsonc_cst.specs.Document.{nodes_of}
-use Rattle.jsonc_cst.specs.EntryComments.{comment_numbers}
+use Rattle.jsonc_cst.specs.EntryComments.{comment_numbers, is_entry_at}
 use Rattle.jsonc_cst.specs.Nodes.{number_of}
 use Rattle.jsonc_cst.specs.typed.Clearing.{LosesComments}
 use Rattle.jsonc_cst.specs.typed.Edits.{IsDetached, KeepsDocumentOf}
@@ -194,6 +194,6 @@ module _ {A : Type 0} where
   EntryCleared old new node = (c : ℕ) → parent_at (nodes_of old) (number_of node) ≡ Some c
       → IsTakenWithComments (removal_of node) (nodes_of old) (nodes_of new) (number_of node) c (comment_numbers old node)
 
-  -- why it has not been: memory was needed for its comments' numbers, or as without comments
+  -- why it has not been: memory was needed for the numbers of an entry's comments, or as without comments
   abbrev pub IsKeptWithComments : CstRootNode A → CstNode → EditError → Type 0
-  IsKeptWithComments d node e = (e ≡ OutOfMemory) ⊎ IsKeptIn d node e
+  IsKeptWithComments d node e = ((e ≡ OutOfMemory) × IsTrue (is_entry_at (nodes_of d) (number_of node))) ⊎ IsKeptIn d node e

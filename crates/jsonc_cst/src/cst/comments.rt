@@ -186,6 +186,7 @@ impl<A: Allocator + Copy> CstRootNode<A> {
         ensures numbers { IfOk result (λ v. v.items ≡ comment_numbers self.now node) }
         ensures in_tree { IfOk result (λ v. All (λ n. n < length (nodes_of self.now)) v.items) }
         ensures memory { IfErr result (λ e. e ≡ EditError.OutOfMemory) }
+        ensures oom_only_if { OnErr result (IsTrue (is_entry_at (nodes_of self.now) (number_of node))) }
     {
         let number = node.number();
         if !is_entry(&self.tree, number) {

@@ -163,7 +163,7 @@ const APPENDED: [Step; 3] = [
     (&[], Change::Value(Way::Append, "4")),
 ];
 
-pub static ROWS: [Row; 13] = [
+pub static ROWS: [Row; 14] = [
     (
         Edits::List(&[
             (&[0, 0], Change::EnsureValue(Shape::Object)),
@@ -228,6 +228,12 @@ pub static ROWS: [Row; 13] = [
         ]),
         "[1, 2]",
         &["[\n  // c\n  1, 2]", "[\n  // c\n  1, /* d */ 2]"],
+    ),
+    // The line ends after the property.
+    (
+        Edits::List(&[(&[0], Change::InsertComment(Place::After, "// c"))]),
+        "{\n  \"a\": 1,\n  \"b\": 2\n}",
+        &["{\n  \"a\": 1, // c\n  \"b\": 2\n}"],
     ),
     // The text is no comment.
     (

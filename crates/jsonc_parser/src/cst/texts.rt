@@ -5,7 +5,7 @@ ghost use Rattle.jsonc_text.specs.OptionsOf.{parse_options};
 ghost use Rattle.jsonc_sound.specs.Documents.{ShowsText};
 ghost use Rattle.jsonc_cst.specs.declared.cst.CstRootNode.{CstRootNode};
 ghost use Rattle.jsonc_cst.specs.Document.{printed_of, tree_of, LiesIn};
-ghost use Rattle.jsonc_parser.specs.Lists.{RunOk, MayBeAsked};
+ghost use Rattle.jsonc_parser.specs.Lists.{RunOk, MayBeAsked, StopsInDocument};
 ghost use Rattle.jsonc_parser.specs.Promise.{IsEditedText, IsNotEdited};
 ghost use Rattle.jsonc_parser.specs.Errors.{edit_text_error_text};
 
@@ -74,6 +74,8 @@ pub fn edit_text<A: Allocator + Copy, D: DocumentArg<A>, C: Fn(&D, CstNode, CstN
         × RunOk C.Fn compare.now D.same old edits.items new × (printed_of new ≡ string_bytes s)
         × LiesIn (parse_options options.now) text.now (tree_of old)) }
     ensures refused { IfErr result (IsNotEdited (parse_options options.now) text.now edits.items) }
+    ensures stopped { IfErr result
+        (StopsInDocument C.Fn compare.now D.same (parse_options options.now) text.now edits.items) }
 {
     let mut doc = match CstRootNode::parse(alloc, text, options) {
         Ok(doc) => doc,

@@ -1,5 +1,5 @@
 -- An entry is taken out, and then its comments.
-use Rattle.std.proofs.Common.{◌≡◌, inl, inr, ℕ, ◌<◌, Bool, true, false, cond, ◌==◌, if◌then◌else◌, filter, IsTrue, ◌++◌, not, List, [], ◌∷◌, length, slice_range, Option, Some, None, Result, Ok, Err, is_ok, IfErr, OnOk, refl, sym, ap, subst, ◌∙◌, arith}
+use Rattle.std.proofs.Common.{◌≡◌, inl, inr, ℕ, ◌<◌, Bool, true, false, cond, ◌==◌, if◌then◌else◌, filter, IsTrue, ◌++◌, not, List, [], ◌∷◌, length, slice_range, Option, Some, None, Result, Ok, Err, is_ok, IfErr, OnErr, OnOk, refl, sym, ap, subst, ◌∙◌, arith}
 use Rattle.std.specs.List.{All}
 use Rattle.std.proofs.lemmas.Bool.{cases_Bool, false≢true}
 use Rattle.std.proofs.lemmas.List.Elements.{All-cons, All-head, All-nil, All-tail, All-weaker}
@@ -224,15 +224,17 @@ module _ {A : Type 0} (old : CstRootNode A) (node : CstNode) where
     document = i.document;
   }
 
-  pub cleared_unread : (c : ℕ) → parent_at (nodes_of old) (number_of node) ≡ Some c → (e : EditError) → e ≡ OutOfMemory → IsRemovalWithComments old old node (Err e)
-  cleared_unread c said e out = record {
+  -- and where there is no memory for the numbers of an entry's comments
+  pub cleared_unread : {X : Type 0} (c : ℕ) → parent_at (nodes_of old) (number_of node) ≡ Some c → (r : Result X EditError) → ((x : X) → r ≡ Ok x → ⊥) → OnErr r (IsTrue (is_entry_at (nodes_of old) (number_of node))) → IsRemovalWithComments old old node (Err OutOfMemory)
+  cleared_unread c said (Ok x) unread entry = absurd (unread x refl)
+  cleared_unread c said (Err e) unread entry = record {
     removed = tt;
     alone = λ none. absurd (let wrong : None ≡ Some c = sym none ∙ said in cc);
     gone = tt;
     untouched = λ loose. refl;
     handles = λ x h. h;
-    error = inl out;
-    memory = λ o sound over. out;
+    error = inl (refl, entry);
+    memory = λ o sound over. refl;
     kept = record { len = omega arith; content = λ n h. refl; parent = λ n h. refl; children = λ n h. refl };
     document = refl;
   }

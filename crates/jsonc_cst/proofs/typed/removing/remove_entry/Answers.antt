@@ -1,12 +1,12 @@
-use Rattle.std.proofs.Common.{◌≡◌, ◌<◌, None, Some, length, ap, subst, sym, ◌∙◌}
+use Rattle.std.proofs.Common.{◌≡◌, ◌<◌, None, Some, IsTrue, OnErr, length, ap, subst, sym, ◌∙◌}
 use Rattle.std.specs.List.{All}
 use Rattle.jsonc_tree.specs.Tree.{parent_at}
 use Rattle.jsonc_tree.proofs.Order.{parent_there}
-use Rattle.jsonc_cst.specs.EntryComments.{comment_numbers}
+use Rattle.jsonc_cst.specs.EntryComments.{comment_numbers, is_entry_at}
 use Rattle.jsonc_cst.specs.Nodes.{number_of}
 use Rattle.jsonc_cst.specs.typed.Calls.{IsRemoval, IsRemovalWithComments}
 use Rattle.jsonc_cst.specs.typed.Removing.{AreClearedIfAny}
-use Rattle.jsonc_cst.proofs.lemmas.typed.ClearedEntries.{all_still, cleared_alone, cleared_entry, cleared_refused, contains_still, parent_contains, there_still}
+use Rattle.jsonc_cst.proofs.lemmas.typed.ClearedEntries.{all_still, cleared_alone, cleared_entry, cleared_refused, cleared_unread, contains_still, parent_contains, there_still}
 use Rattle.jsonc_cst.proofs.typed.removing.remove_entry.Goals as goal
 use Rattle.jsonc_cst.proofs.typed.removing.remove_entry.Goals.{then-is_ok, else-is_ok}
 
@@ -18,6 +18,15 @@ returns-in_default g c =
     let number : number_of node ≡ c.number.result = sym (c.number.ensures ∙ ap number_of c.node-entry.ensures) in
     let none : parent_at old.tree.nodes (number_of node) ≡ None = ap (parent_at old.tree.nodes) number ∙ sym c.parent.ensures ∙ c.in_default.is in
     cleared_alone old node new c.remove_node.result none (subst (λ x. IsRemoval old new x c.remove_node.result) c.node-entry.ensures c.remove_node.ensures)
+
+pub returns-in_default-comment_numbers : goal.returns-in_default-comment_numbers
+returns-in_default-comment_numbers g c =
+    let old = c.args.doc.now in
+    let node = g.N.TypedNode.node_of c.args.node in
+    let number : number_of node ≡ c.number.result = sym (c.number.ensures ∙ ap number_of c.node-entry.ensures) in
+    let said : parent_at old.tree.nodes (number_of node) ≡ Some c.in-Some.container = ap (parent_at old.tree.nodes) number ∙ sym c.parent.ensures ∙ c.in-Some.is in
+    let entry : OnErr c.comment_numbers.result (IsTrue (is_entry_at old.tree.nodes (number_of node))) = subst (λ x. OnErr c.comment_numbers.result (IsTrue (is_entry_at old.tree.nodes (number_of x)))) c.node-entry.ensures c.comment_numbers.ensures.oom_only_if in
+    cleared_unread old node c.in-Some.container said c.comment_numbers.result c.in_default-comment_numbers.not-Ok entry
 
 pub clear_any-requires-clause-in_tree : goal.clear_any-requires-clause-in_tree
 clear_any-requires-clause-in_tree g c =

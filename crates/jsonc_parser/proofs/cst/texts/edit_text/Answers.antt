@@ -1,4 +1,4 @@
-use Rattle.std.proofs.Common.{◌≡◌, chars, length, rules, sym, string_bytes}
+use Rattle.std.proofs.Common.{◌≡◌, chars, inl, inr, length, rules, sym, string_bytes}
 use Rattle.jsonc_text.specs.OptionsOf.{parse_options}
 use Rattle.jsonc_cst.specs.Document.{tree_of}
 use Rattle.jsonc_parser.proofs.Promise.{text_edited, text_stops, text_wants_memory}
@@ -22,3 +22,11 @@ returns-clause-refused g c =
     let all : c.len-count.result ≡ length c.args.edits.items = search rules in
     text_wants_memory (parse_options c.args.options.now) (chars c.args.text.now) (tree_of c.in-Ok.doc) c.args.edits.items c.len-count.result c.in-Err-text.why c.in-Ok.ensures.document all
     c.in-Err-text.ensures.memory
+
+pub returns-in-Err-run-clause-stopped : goal.returns-in-Err-run-clause-stopped
+returns-in-Err-run-clause-stopped g c = (c.in-Ok.doc, c.run.new.doc, c.in-Ok.ensures.document, c.in-Ok.ensures.laid, inr c.in-Err-run.ensures.stopped)
+
+pub returns-clause-stopped : goal.returns-clause-stopped
+returns-clause-stopped g c =
+    let all : c.len-count.result ≡ length c.args.edits.items = search rules in
+    (c.in-Ok.doc, c.run.new.doc, c.in-Ok.ensures.document, c.in-Ok.ensures.laid, inl (all, c.in-Err-text.ensures.memory))
