@@ -1,5 +1,5 @@
 -- What is kept of open containers, one less or one more.
-use Rattle.std.proofs.Common.{ℕ, ◌≡◌, ◌∙◌, ◌+◌, ◌-◌, ◌<◌, ◌≤◌, sym, ap, subst, refl, Bool, not, ◌||◌, List, [], ◌∷◌, ◌++◌, length, take, drop, set, get_or, map, reverse, Option, Some, None, append_assoc, arith}
+use Rattle.std.proofs.Common.{ℕ, ◌≡◌, ◌∙◌, ◌+◌, ◌-◌, ◌<◌, ◌≤◌, sym, ap, subst, refl, Bool, true, false, not, ◌||◌, List, [], ◌∷◌, ◌++◌, length, take, drop, set, get_or, map, reverse, Option, Some, None, append_assoc, arith}
 use Rattle.std.specs.Option.{option_to_list}
 use Rattle.std.proofs.lemmas.List.{take-append-drop, take-set, drop-set, take_more, reverse-append}
 use Rattle.jsonc_format.specs.declared.plan.Pending.{Pending}
@@ -16,6 +16,16 @@ pub closed_flag : (bare : Bool) (flat : List Bool) (inner : Option Pending) (out
 closed_flag bare flat inner outer closed e h =
     let o : AreOrdered flat (closed ∷ reverse outer) = subst (λ i. AreOrdered flat (option_to_list i ++ reverse outer)) e h in
     set_is flat closed.number (bare || not closed.broken) o.0 ∙ sym (ap (λ i. closed_flat bare flat (option_to_list i ++ reverse outer)) e)
+
+-- where no line ends, what is known of open containers stays
+pub not_marked : (broken : Bool) (ps : List Pending) → broken ≡ false → marked broken ps ≡ ps
+not_marked true ps h = cc
+not_marked false [] h = refl
+not_marked false (o ∷ os) h = ap (λ b. record { number = o.number; broken = b } ∷ os) (stays o.broken)
+  where
+    stays : (b : Bool) → b || false ≡ b
+    stays true = refl
+    stays false = refl
 
 back_one : (next : Option Pending) → reverse (option_to_list next) ≡ option_to_list next
 back_one None = refl

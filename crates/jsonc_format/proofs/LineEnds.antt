@@ -76,7 +76,7 @@ one_byte c h = byte_length-one c ∙ each (c == 0x0A) (c == 0x0D) h (λ e. test_
     each false true h f g = ap len_utf8 (g refl)
     each false false h f g = cc
 
-is_one : (c : ℕ) → IsTrue (not (not (is_line_end c))) → IsTrue (is_line_end c)
+pub is_one : (c : ℕ) → IsTrue (not (not (is_line_end c))) → IsTrue (is_line_end c)
 is_one c h = each (is_line_end c) h
   where
     each : (x : Bool) → IsTrue (not (not x)) → IsTrue x
@@ -84,7 +84,7 @@ is_one c h = each (is_line_end c) h
     each false h = h
 
 -- what follows the character that ends a line
-end_step : (bytes s : List ℕ) (place c : ℕ) → IsUtf8 bytes → IsCharBoundary bytes place → rest bytes place ≡ c ∷ s → IsTrue (is_line_end c) → (rest bytes (place + 1) ≡ s) × IsCharBoundary bytes (place + 1)
+pub end_step : (bytes s : List ℕ) (place c : ℕ) → IsUtf8 bytes → IsCharBoundary bytes place → rest bytes place ≡ c ∷ s → IsTrue (is_line_end c) → (rest bytes (place + 1) ≡ s) × IsCharBoundary bytes (place + 1)
 end_step bytes s place c u b e h =
     let past = rest_past bytes (c ∷ []) s place u b e in
     let one : byte_length (c ∷ []) ≡ 1 = one_byte c h in

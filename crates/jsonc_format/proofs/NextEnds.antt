@@ -1,5 +1,5 @@
 -- The next place where a line ends.
-use Rattle.std.proofs.Common.{ℕ, zero, suc, ◌≡◌, ◌∙◌, ◌+◌, ◌<◌, ◌≤◌, sym, ap, refl, subst, Bool, true, false, not, ◌&&◌, ◌||◌, ◌==◌, nat_lt, List, [], ◌∷◌, ◌++◌, length, IsTrue, IsUtf8, IsCharBoundary, chars, slice_range, arith, append_assoc, if◌then◌else◌}
+use Rattle.std.proofs.Common.{ℕ, suc, ◌≡◌, ◌∙◌, ◌+◌, ◌<◌, ◌≤◌, sym, ap, refl, subst, Bool, true, false, not, ◌&&◌, ◌||◌, ◌==◌, nat_lt, List, [], ◌∷◌, ◌++◌, length, IsTrue, IsUtf8, IsCharBoundary, chars, slice_range, arith, append_assoc, if◌then◌else◌}
 use Rattle.jsonc_text.specs.Options.{Options}
 use Rattle.jsonc_text.specs.Text.{rest, next, no, starts, Many, stop, step, is_line_end, Spans}
 use Rattle.jsonc_text.proofs.Cuts.{chars_between, many_split, same_place}
@@ -8,9 +8,9 @@ use Rattle.jsonc_text.proofs.Basics.{front_same, test_eq}
 use Rattle.jsonc_format.specs.declared.gaps.Ends.{Ends}
 use Rattle.jsonc_format.specs.Format.{Piece, IsPieces, no_more, piece, in_line, lines, opens, closes}
 use Rattle.jsonc_format.specs.Gaps.{AreEnds, IsNextEnd}
-use Rattle.jsonc_format.specs.Styles.{first_end, last_line, line_end_of, level_of, tells_level, depth_after}
+use Rattle.jsonc_format.specs.Styles.{first_end, last_line, line_end_of, level_of, depth_after}
 use Rattle.jsonc_format.specs.Wishes.{IsLineEndOf, IsLevelOf}
-use Rattle.jsonc_format.proofs.LineEnds.{stays, in_line_past}
+use Rattle.jsonc_format.proofs.LineEnds.{stays, in_line_past, lines_past, is_one, end_step}
 
 joined : (s t : List ℕ) → in_line (s ++ t) ≡ in_line s && in_line t
 joined [] t = refl
@@ -144,6 +144,50 @@ lines_none (c ∷ s) h = each (c == 0x0A) (c == 0x0D) (no (λ d. d == 0x0A) (nex
     each true y w b h k = cc
     each false true w b h k = cc
     each false false w b h k = k h
+
+-- the characters from the end of a line on, as far as another place
+record EndsAt (bytes b : List ℕ) (to place : ℕ) : Type 0 where
+  first : ℕ
+  others : List ℕ
+  parts : b ≡ first ∷ others
+  left : rest bytes (place + 1) ≡ others ++ rest bytes to
+  boundary : IsCharBoundary bytes (place + 1)
+
+ends_at : (bytes b : List ℕ) (from to place : ℕ) → IsUtf8 bytes → Spans bytes from to → IsNextEnd bytes from place → place < to → rest bytes place ≡ b ++ rest bytes to → EndsAt bytes b to place
+ends_at bytes [] from to place u s n h e = let same = same_place bytes place to u n.boundary s.to e in absurd (omega (arith, h, same))
+ends_at bytes (c ∷ d) from to place u s n h e =
+    let past = end_step bytes (d ++ rest bytes to) place c u n.boundary e (is_one c (subst (λ t. IsTrue (no stays (next t))) e n.stops)) in
+    record { first = c; others = d; parts = refl; left = past.0; boundary = past.1 }
+
+ended : (bytes : List ℕ) (from to place : ℕ) → IsUtf8 bytes → Spans bytes from to → IsNextEnd bytes from place → place < to → EndsAt bytes (chars (slice_range bytes place to)) to place
+ended bytes from to place u s n h =
+    ends_at bytes (chars (slice_range bytes place to)) from to place u s n h (chars_between bytes place to u (record { from = n.boundary; to = s.to; order = omega (arith, h) }))
+
+pub after_first : (bytes : List ℕ) (from to place : ℕ) → IsUtf8 bytes → Spans bytes from to → IsNextEnd bytes from place → place < to → IsCharBoundary bytes (place + 1)
+after_first bytes from to place u s n h = (ended bytes from to place u s n h).boundary
+
+at_most_one : (x : Bool) (n : ℕ) → n ≡ 0 → nat_lt 1 (if x then suc n else n) ≡ false
+at_most_one true n e = rw e refl
+at_most_one false n e = rw e refl
+
+-- one line ends, where the next one ends no sooner than at the other place
+pub one_end_between : (bytes : List ℕ) (from to place after : ℕ) → IsUtf8 bytes → Spans bytes from to → IsNextEnd bytes from place → place < to → IsNextEnd bytes (place + 1) after → to ≤ after
+    → AreEnds (record { any = true; several = false }) (chars (slice_range bytes from to)) × IsNextEnd bytes to after
+one_end_between bytes from to place after u s n h m k =
+    let g = chars (slice_range bytes from to) in
+    let b = chars (slice_range bytes place to) in
+    let e = ended bytes from to place u s n h in
+    let d = chars (slice_range bytes (place + 1) to) in
+    let more : Spans bytes (place + 1) to = record { from = e.boundary; to = s.to; order = omega (arith, h) } in
+    let none = none_between bytes (place + 1) to after u more m k in
+    let front : rest bytes from ≡ g ++ rest bytes to = chars_between bytes from to u s in
+    let back : rest bytes place ≡ b ++ rest bytes to = chars_between bytes place to u (record { from = n.boundary; to = s.to; order = omega (arith, h) }) in
+    let run = many_split stays n.passed in
+    let whole : g ≡ run.0 ++ b = front_same {r = rest bytes to} {s = rest bytes to} refl (sym front ∙ run.1 ∙ ap (λ t. run.0 ++ t) back ∙ sym (append_assoc run.0 b (rest bytes to))) in
+    let others : e.others ≡ d = front_same {r = rest bytes to} {s = rest bytes to} refl (sym e.left ∙ chars_between bytes (place + 1) to u more) in
+    let empty : lines e.others ≡ 0 = ap lines others ∙ lines_none d (not_false (in_line d) none.0) in
+    let counted : lines g ≡ lines (e.first ∷ e.others) = ap lines whole ∙ lines_past (many_behind stays [] run.0 b run.2) ∙ ap lines e.parts in
+    (record { any = one_between bytes from to place u s n h; several = sym (ap (nat_lt 1) counted ∙ at_most_one _ (lines e.others) empty) }, none.1)
 
 pub no_ends : (gap : List ℕ) → false ≡ not (in_line gap) → AreEnds (record { any = false; several = false }) gap
 no_ends gap h = record { any = h; several = sym (rw (lines_none gap (not_false (in_line gap) h)) refl) }

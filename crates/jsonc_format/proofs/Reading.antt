@@ -1,6 +1,5 @@
 -- Where a scanner is in a text.
 use Rattle.std.proofs.Common.{ℕ, ◌≡◌, ◌∙◌, ◌≤◌, ◌<◌, ◌-◌, sym, ap, refl, subst, List, [], ◌++◌, IsUtf8, IsCharBoundary, chars, slice_range, append-nil, length, arith, Some, None, inl, inr}
-use Rattle.jsonc_text.specs.declared.errors.ParseError.{ParseError}
 use Rattle.jsonc_text.specs.Options.{Options}
 use Rattle.jsonc_text.specs.Text.{rest, Many, Spans}
 use Rattle.jsonc_text.specs.Gaps.{is_blank}
@@ -9,6 +8,7 @@ use Rattle.jsonc_text.proofs.CharacterSteps.{rest_end}
 use Rattle.jsonc_text.proofs.Cuts.{end_place, chars_between}
 use Rattle.jsonc_scan.specs.declared.scanner.Scanner.{Scanner}
 use Rattle.jsonc_scan.specs.Scanner.{text_of, options_of, start_of, end_of, left, PassesBlanks, IsThere, GoesOn, NothingStands}
+use Rattle.jsonc_format.specs.declared.stop.Stop.{Stop}
 use Rattle.jsonc_format.specs.Format.{Piece, IsPieces}
 use Rattle.jsonc_format.specs.Pieces.{HasNoPieces, IsReadAt, IsPiecesError}
 use Rattle.jsonc_format.proofs.Steps.{read_front, none_here, no_front}
@@ -96,7 +96,7 @@ module _ {A : Type 0} where
   no_pieces o bytes s place h n = h.none (moved_three (λ o t k. HasNoPieces o (rest t k)) h.options h.text h.end n)
 
   -- what is wrong from there on is wrong with the text
-  pub error_from : (o : Options) (bytes : List ℕ) (s : Scanner A) (place : ℕ) (e : ParseError) → IsAt o bytes s place → IsPiecesError o (rest bytes place) e → IsPiecesError o (chars bytes) e
+  pub error_from : (o : Options) (bytes : List ℕ) (s : Scanner A) (place : ℕ) (e : Stop) → IsAt o bytes s place → IsPiecesError o (rest bytes place) e → IsPiecesError o (chars bytes) e
   error_from o bytes s place e h (inl m) = inl m
   error_from o bytes s place e h (inr n) = inr (h.none n)
 

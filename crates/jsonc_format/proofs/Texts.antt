@@ -1,8 +1,9 @@
 -- What is written by itself.
-use Rattle.std.proofs.Common.{ℕ, zero, suc, ◌≡◌, ◌≢◌, ◌∙◌, ◌<◌, sym, ap, refl, Bool, true, false, not, ◌==◌, ◌&&◌, nat_lt, cond, List, [], ◌∷◌, length, take, codes, IsUtf8, arith}
+use Rattle.std.proofs.Common.{ℕ, zero, suc, ◌≡◌, ◌≢◌, ◌∙◌, ◌<◌, sym, ap, refl, Bool, true, false, not, ◌==◌, ◌&&◌, nat_lt, cond, List, [], ◌∷◌, length, take, get_or, codes, IsUtf8, arith}
 use Rattle.std.specs.Str.{chars, trim_end, drop_trailing_whitespace}
 use Rattle.std.proofs.Math.Utf8.{scalar, scalars}
-use Rattle.std.proofs.lemmas.Str.{IsCharBoundary-start, scalars-chars, chars-encodes}
+use lib.Utf8.{encode}
+use Rattle.std.proofs.lemmas.Str.{IsCharBoundary-start, scalars-chars, chars-encodes, encode_ascii}
 use Rattle.jsonc_text.proofs.Basics.{and_both}
 use Rattle.jsonc_text.proofs.Cuts.{end_place, within_text}
 use Rattle.jsonc_text.specs.Gaps.{is_blank}
@@ -10,6 +11,12 @@ use Rattle.jsonc_text.specs.Lexemes.{Scanned, lexeme, line_comment, block_commen
 use Rattle.jsonc_format.specs.Format.{is_line_comment, written}
 use Rattle.jsonc_format.specs.Styles.{is_empty, tells_level}
 use Rattle.jsonc_format.proofs.Trim.{trimmed}
+
+-- a character of ASCII is one byte
+pub one_byte : (row bytes : List ℕ) → row ≡ bytes → length row ≡ 1 → get_or row 0 0 < 128 → encode (get_or row 0 0) ≡ bytes
+one_byte [] bytes e h k = absurd (omega (arith, h))
+one_byte (b ∷ []) bytes e h k = encode_ascii b k ∙ e
+one_byte (b ∷ c ∷ s) bytes e h k = absurd (omega (arith, h))
 
 pub line_feed : chars (0x0A ∷ []) ≡ 0x0A ∷ []
 unfolding chars

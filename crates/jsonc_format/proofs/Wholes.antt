@@ -1,5 +1,5 @@
 -- A text of pieces is formatted as it is wished.
-use Rattle.std.proofs.Common.{ℕ, ◌≡◌, ◌∙◌, Bool, true, List, IsUtf8, chars, inl, inr}
+use Rattle.std.proofs.Common.{ℕ, ◌≡◌, ◌∙◌, Bool, true, List, IsUtf8, chars}
 use Rattle.jsonc_text.specs.declared.errors.ParseError.{ParseError}
 use Rattle.jsonc_text.specs.Faults.{IsFault, IsOutOfMemory}
 use Rattle.jsonc_text.proofs.FaultLemmas.{out_of_memory_is_fault}
@@ -8,7 +8,7 @@ use Rattle.jsonc_text.specs.Options.{Options}
 use Rattle.jsonc_format.specs.Format.{Style, Piece, IsPieces}
 use Rattle.jsonc_format.specs.Styles.{Wish}
 use Rattle.jsonc_format.specs.Wishes.{IsLayoutOf}
-use Rattle.jsonc_format.specs.Pieces.{AreFlagsOf, IsPiecesError}
+use Rattle.jsonc_format.specs.Pieces.{AreFlagsOf}
 use Rattle.jsonc_format.specs.Printing.{IsPrinted, FormatsPieces}
 use Rattle.jsonc_format.proofs.DocumentPieces.{document_pieces}
 
@@ -26,11 +26,6 @@ whole o wish y bytes flat row out f e l p tail ps h = record {
 -- a text that is accepted has pieces
 pub pieces_given : (o : Options) (t : List ℕ) → HasValueWithin true o t → (tail : List ℕ) × (ps : List Piece) × IsPieces o tail t ps
 pieces_given o t h = let d = document_pieces o t h.0 h.1 in (d.0, d.1, d.2)
-
--- so memory alone is wanted for it
-pub refused_memory : (o : Options) (t : List ℕ) → HasValueWithin true o t → (e : ParseError) → IsPiecesError o t e → IsOutOfMemory e
-refused_memory o t h e (inl m) = m
-refused_memory o t h e (inr n) = let d = document_pieces o t h.0 h.1 in absurd (n d.0 d.1 d.2)
 
 pub memory_fault : (bytes : List ℕ) → IsUtf8 bytes → (e : ParseError) → IsOutOfMemory e → IsFault bytes e
 memory_fault bytes u e m = out_of_memory_is_fault bytes e u m

@@ -1,13 +1,13 @@
 -- The pieces of a text from a place on.
 use Rattle.std.specs.Prelude.{ℕ, ◌≡◌, ◌⊎◌, Bool, List, chars, slice_range}
-use Rattle.jsonc_text.specs.declared.errors.ParseError.{ParseError}
-use Rattle.jsonc_text.specs.Faults.{IsOutOfMemory}
 use Rattle.jsonc_format.specs.Flags.{flats}
 use Rattle.jsonc_text.specs.Options.{Options}
 use Rattle.jsonc_text.specs.Text.{rest, Many, Spans}
 use Rattle.jsonc_text.specs.Gaps.{is_blank}
 use Rattle.jsonc_text.specs.Lexemes.{Scanned, block_comment, IsScanned}
 use Rattle.jsonc_format.specs.declared.class.Class.{Class}
+use Rattle.jsonc_format.specs.declared.stop.Stop.{Stop}
+use Rattle.jsonc_format.specs.declared.stop.Stop.TheVariants as stop
 use Rattle.jsonc_format.specs.Classes.{IsOf}
 use Rattle.jsonc_format.specs.Format.{Piece, IsPieces, leads}
 
@@ -34,8 +34,8 @@ abbrev pub LeadsOn : Options → List ℕ → Bool → Type 0
 LeadsOn o t b = (s tail : List ℕ) (ps : List Piece) → IsPieces o tail t ps → leads (block_comment s) ps ≡ b
 
 -- allocation failed, or the text is no pieces
-abbrev pub IsPiecesError : Options → List ℕ → ParseError → Type 0
-IsPiecesError o t e = IsOutOfMemory e ⊎ HasNoPieces o t
+abbrev pub IsPiecesError : Options → List ℕ → Stop → Type 0
+IsPiecesError o t e = (e ≡ stop.Memory) ⊎ HasNoPieces o t
 
 -- of each container of the text, whether it is empty or on one line
 abbrev pub AreFlagsOf : Options → List ℕ → List Bool → Type 0

@@ -32,5 +32,9 @@ pub fn format_text<A: Allocator + Copy>(
     ensures error { IfErr result (ParseFault (parse_options options.now) text.now true) }
 {
     check_document(alloc, text, options)?;
-    format_pieces(alloc, text, options, style)
+    // An accepted text is lexemes and comments with blanks between them, so memory alone is wanted.
+    let Ok(formatted) = format_pieces(alloc, text, options, style) else {
+        return Err(ParseError::out_of_memory());
+    };
+    Ok(formatted)
 }

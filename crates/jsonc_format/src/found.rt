@@ -10,10 +10,10 @@ use crate::class::Class;
 use crate::gaps::{first_line_end, has_line_end, last_line};
 use crate::output::Layout;
 use crate::scan::next_piece;
+use crate::stop::Stop;
 use crate::style::{Level, LineEnd, Style};
 use jsonc_scan::found::TokenContent;
 use jsonc_scan::scanner::Scanner;
-use jsonc_text::errors::ParseError;
 use jsonc_text::options::ParseOptions;
 use std::alloc::Allocator;
 
@@ -22,7 +22,7 @@ fn found_line_end<A: Allocator + Copy>(
     alloc: A,
     text: &str,
     options: &ParseOptions,
-) -> Result<LineEnd, ParseError>
+) -> Result<LineEnd, Stop>
     ensures found { IfOk result (λ e. IsLineEndOf (parse_options options.now) text.now (line_end_text e)) }
     ensures refused { IfErr result (IsPiecesError (parse_options options.now) (chars text.now)) }
 {
@@ -61,7 +61,7 @@ fn found_level<'a, A: Allocator + Copy>(
     alloc: A,
     text: &'a str,
     options: &ParseOptions,
-) -> Result<&'a str, ParseError>
+) -> Result<&'a str, Stop>
     ensures found { IfOk result (λ level. IsLevelOf (parse_options options.now) text.now (chars level.now)) }
     ensures refused { IfErr result (IsPiecesError (parse_options options.now) (chars text.now)) }
 {
@@ -93,7 +93,7 @@ fn line_end_for<A: Allocator + Copy>(
     text: &str,
     options: &ParseOptions,
     wish: Option<LineEnd>,
-) -> Result<&'static str, ParseError>
+) -> Result<&'static str, Stop>
     ensures found { IfOk result (λ s. IsWishedOr (option_map line_end_text wish) (IsLineEndOf (parse_options options.now) text.now) (chars s.now)) }
     ensures refused { IfErr result (IsPiecesError (parse_options options.now) (chars text.now)) }
 {
@@ -110,7 +110,7 @@ fn level_for<'a, A: Allocator + Copy>(
     text: &'a str,
     options: &ParseOptions,
     wish: Option<Level>,
-) -> Result<&'a str, ParseError>
+) -> Result<&'a str, Stop>
     ensures found { IfOk result (λ level. IsWishedOr (option_map level_text wish) (IsLevelOf (parse_options options.now) text.now) (chars level.now)) }
     ensures refused { IfErr result (IsPiecesError (parse_options options.now) (chars text.now)) }
 {
@@ -121,12 +121,13 @@ fn level_for<'a, A: Allocator + Copy>(
 }
 
 /// A style for a text.
+#[inline(never)]
 pub(crate) fn layout_of<'a, A: Allocator + Copy>(
     alloc: A,
     text: &'a str,
     options: &ParseOptions,
     style: &Style,
-) -> Result<Layout<'a>, ParseError>
+) -> Result<Layout<'a>, Stop>
     ensures found { IfOk result (λ l. IsLayoutOf (parse_options options.now) text.now (wish_of style.now) (style_in l)) }
     ensures refused { IfErr result (IsPiecesError (parse_options options.now) (chars text.now)) }
 {

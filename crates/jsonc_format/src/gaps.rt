@@ -44,7 +44,8 @@ pub(crate) struct Ends {
     pub several: bool,
 }
 
-/// What ends between two places, as [`ends_between`] tells it.
+/// What ends between two places, as [`ends_between`] tells it. Mostly the line after the first end goes on past the other place:
+/// then one search tells that no second line ends, and where the next one does.
 #[inline(always)]
 pub(crate) fn ends_in(text: &str, from: usize, to: usize, line_end: &mut usize) -> Ends
     requires span { Spans text.now from to }
@@ -52,6 +53,17 @@ pub(crate) fn ends_in(text: &str, from: usize, to: usize, line_end: &mut usize) 
     ensures ends { AreEnds result (chars (slice_range text.now from to)) }
     ensures known { IsNextEnd text.now to line_end.new }
 {
+    let first = *line_end;
+    if first < to {
+        let next = stop_place(text, first + 1, b'\n', b'\r');
+        if to <= next {
+            *line_end = next;
+            return Ends {
+                any: true,
+                several: false,
+            };
+        }
+    }
     if !ends_between(text, from, to, line_end) {
         return Ends {
             any: false,

@@ -19,6 +19,7 @@ mod plan;
 mod print;
 mod scan;
 mod state;
+mod stop;
 pub mod style;
 mod track;
 mod whole;

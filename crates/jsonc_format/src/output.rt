@@ -18,11 +18,19 @@ pub(crate) struct Layout<'a> {
     pub expand: bool,
 }
 
-/// Writes characters.
+/// Writes characters. One of ASCII alone is put by itself, since a call that copies takes longer.
 #[inline(always)]
 pub(crate) fn put<A: Allocator>(out: &mut String<A>, text: &str) -> Result<(), AllocError>
     ensures { OnOk result (text_of out.new ≡ text_of out.old ++ chars text.now) }
 {
+    if let [byte] = text.as_bytes() {
+        if *byte < 128 {
+            return match out.push(*byte as char) {
+                Ok(()) => Ok(()),
+                Err(error) => Err(error),
+            };
+        }
+    }
     match out.push_str(text) {
         Ok(()) => Ok(()),
         Err(error) => Err(error),

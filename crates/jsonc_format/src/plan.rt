@@ -6,9 +6,9 @@ ghost use Rattle.jsonc_format.specs.Pieces.{AreFlagsOf, IsPiecesError};
 use crate::class::Class;
 use crate::gaps::ends_between;
 use crate::scan::next_piece;
+use crate::stop::Stop;
 use jsonc_scan::found::TokenContent;
 use jsonc_scan::scanner::Scanner;
-use jsonc_text::errors::ParseError;
 use jsonc_text::options::ParseOptions;
 use jsonc_text::string::stops::stop_place;
 use std::alloc::{AllocError, Allocator};
@@ -58,6 +58,9 @@ impl<A: Allocator> Plan<A> {
         ensures flat { self.new.flat ≡ self.old.flat }
         ensures bare { self.new.bare ≡ self.old.bare }
     {
+        if !broken {
+            return;
+        }
         if let Some(last) = self.inner {
             self.inner = Some(Pending {
                 number: last.number,
@@ -118,11 +121,12 @@ impl<A: Allocator> Plan<A> {
 }
 
 /// Of each array and object of a text whether it is empty or on one line, in the order of their opening brackets.
+#[inline(never)]
 pub(crate) fn flat_containers<A: Allocator + Copy>(
     alloc: A,
     text: &str,
     options: &ParseOptions,
-) -> Result<Vec<bool, A>, ParseError>
+) -> Result<Vec<bool, A>, Stop>
     ensures flags { IfOk result (λ v. AreFlagsOf (parse_options options.now) text.now v.items) }
     ensures refused { IfErr result (IsPiecesError (parse_options options.now) (chars text.now)) }
 {
@@ -139,7 +143,7 @@ pub(crate) fn flat_containers<A: Allocator + Copy>(
         let end = scanner.token_end();
         let in_line = !ends_between(text, from, end, &mut line_end);
         let Ok(()) = plan.pass(Class::of(kind), in_line) else {
-            return Err(ParseError::out_of_memory());
+            return Err(Stop::Memory);
         };
         from = end;
     }

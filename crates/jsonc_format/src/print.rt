@@ -2,7 +2,6 @@
 ghost use Rattle.std.specs.Prelude.{◌≡◌, ◌++◌, IfOk, IfErr, OnOk, chars, slice_range};
 ghost use Rattle.jsonc_text.specs.Lexemes.{Scanned};
 ghost use Rattle.jsonc_text.specs.OptionsOf.{parse_options};
-ghost use Rattle.jsonc_text.specs.Faults.{IsOutOfMemory};
 ghost use Rattle.jsonc_text.specs.Text.{rest, Spans};
 ghost use Rattle.jsonc_format.specs.Classes.{IsOf};
 ghost use Rattle.jsonc_format.specs.Flags.{flats_of};
@@ -16,10 +15,10 @@ use crate::class::Class;
 use crate::gaps::{Ends, ends_between, ends_in};
 use crate::output::{Layout, put};
 use crate::scan::{leads_from, next_piece};
+use crate::stop::Stop;
 use crate::track::Track;
 use jsonc_scan::found::TokenContent;
 use jsonc_scan::scanner::Scanner;
-use jsonc_text::errors::ParseError;
 use jsonc_text::options::ParseOptions;
 use jsonc_text::string::stops::stop_place;
 use std::alloc::Allocator;
@@ -43,7 +42,7 @@ fn put_read<A: Allocator + Copy>(
     track: &mut Track<'_, A>,
     out: &mut String<A>,
     read: Read,
-) -> Result<(), ParseError>
+) -> Result<(), Stop>
     requires piece { Spans text.now read.start read.end }
     requires ends { AreEnds read.ends (chars (slice_range text.now read.from read.start)) }
     ensures put { (w : Scanned) → IsOf read.class w → OnOk result (PutsRead (parse_options options.now) text.now (style_in layout.now) read w track.old track.new (text_of out.old) (text_of out.new)) }
@@ -59,45 +58,42 @@ fn put_read<A: Allocator + Copy>(
     )?;
     let written = &text[read.start..read.end];
     let Ok(()) = track.put(out, layout, read.class, read.ends, written, leading) else {
-        return Err(ParseError::out_of_memory());
+        return Err(Stop::Memory);
     };
     Ok(())
 }
 
 /// What is written, with the end of the last line, if there is one.
-fn end_with<A: Allocator>(
-    out: String<A>,
-    line_end: &str,
-    begun: bool,
-) -> Result<String<A>, ParseError>
+fn end_with<A: Allocator>(out: String<A>, line_end: &str, begun: bool) -> Result<String<A>, Stop>
     ensures written { IfOk result (λ s. text_of s ≡ text_of out ++ last_line_end begun (chars line_end.now)) }
-    ensures memory { IfErr result IsOutOfMemory }
+    ensures memory { IfErr result (λ e. e ≡ Stop.Memory) }
 {
     let mut out = out;
     if !begun {
         return Ok(out);
     }
     let Ok(()) = put(&mut out, line_end) else {
-        return Err(ParseError::out_of_memory());
+        return Err(Stop::Memory);
     };
     Ok(out)
 }
 
 /// A text in this layout, whose containers are on one line or not as these flags say.
+#[inline(never)]
 pub(crate) fn print<A: Allocator + Copy>(
     alloc: A,
     text: &str,
     options: &ParseOptions,
     layout: &Layout<'_>,
     flat: &[bool],
-) -> Result<String<A>, ParseError>
+) -> Result<String<A>, Stop>
     ensures printed { IfOk result (λ s. IsPrinted (parse_options options.now) (style_in layout.now) text.now flat.now (text_of s)) }
     ensures refused { IfErr result (IsPiecesError (parse_options options.now) (chars text.now)) }
 {
     let mut scanner = Scanner::with_options(alloc, text, options.copied());
     let mut content = TokenContent::new();
     let Ok(mut out) = String::with_capacity(alloc, text.len()) else {
-        return Err(ParseError::out_of_memory());
+        return Err(Stop::Memory);
     };
     let mut track = Track::new(alloc, flat);
     let mut from = 0;

@@ -10,9 +10,9 @@ ghost use Rattle.jsonc_format.specs.Pieces.{HasNoPieces, Leads, LeadsOn};
 
 use crate::class::Class;
 use crate::gaps::has_line_end;
+use crate::stop::Stop;
 use jsonc_scan::found::{TokenContent, TokenKind};
 use jsonc_scan::scanner::Scanner;
-use jsonc_text::errors::ParseError;
 use jsonc_text::options::ParseOptions;
 use std::alloc::Allocator;
 
@@ -21,7 +21,7 @@ use std::alloc::Allocator;
 pub(crate) fn next_piece<'a, A: Allocator + Copy>(
     scanner: &mut Scanner<'a, A>,
     content: &mut TokenContent<'a, A>,
-) -> Result<Option<TokenKind>, ParseError>
+) -> Result<Option<TokenKind>, Stop>
     ensures blanks { OnOk result (PassesBlanks scanner.old scanner.new) }
     ensures found { IfOk result (λ f. IsThere scanner.new (seen scanner.new content.new f)) }
     ensures none { IfErr result (λ _. IsUtf8 (text_of scanner.new) → HasNoPieces (options_of scanner.old) (left scanner.old)) }
@@ -32,17 +32,18 @@ pub(crate) fn next_piece<'a, A: Allocator + Copy>(
     }
     match scanner.step(content, false) {
         Ok(found) => Ok(found),
-        Err(error) => Err(error),
+        Err(_) => Err(Stop::NoPieces),
     }
 }
 
 /// Whether an entry begins on this line after the place, past block comments.
+#[inline(never)]
 fn leads_after<A: Allocator + Copy>(
     alloc: A,
     text: &str,
     options: &ParseOptions,
     place: usize,
-) -> Result<bool, ParseError>
+) -> Result<bool, Stop>
     requires { IsCharBoundary text.now place }
     ensures found { IfOk result (LeadsOn (parse_options options.now) (rest text.now place)) }
     ensures none { IfErr result (λ _. HasNoPieces (parse_options options.now) (rest text.now place)) }
@@ -92,7 +93,7 @@ pub(crate) fn leads_from<A: Allocator + Copy>(
     class: Class,
     place: usize,
     comment: bool,
-) -> Result<bool, ParseError>
+) -> Result<bool, Stop>
     requires { IsCharBoundary text.now place }
     ensures found { IfOk result (λ b. comment ≡ false → Leads (parse_options options.now) class (rest text.now place) b) }
     ensures none { IfErr result (λ _. HasNoPieces (parse_options options.now) (rest text.now place)) }

@@ -9,8 +9,8 @@ ghost use Rattle.jsonc_format.specs.Writing.{text_of};
 use crate::found::layout_of;
 use crate::plan::flat_containers;
 use crate::print::print;
+use crate::stop::Stop;
 use crate::style::Style;
-use jsonc_text::errors::ParseError;
 use jsonc_text::options::ParseOptions;
 use std::alloc::Allocator;
 
@@ -20,11 +20,12 @@ pub(crate) fn format_pieces<A: Allocator + Copy>(
     text: &str,
     options: &ParseOptions,
     style: &Style,
-) -> Result<String<A>, ParseError>
+) -> Result<String<A>, Stop>
     ensures formatted { IfOk result (λ s. FormatsPieces (parse_options options.now) (wish_of style.now) (chars text.now) (text_of s)) }
     ensures refused { IfErr result (IsPiecesError (parse_options options.now) (chars text.now)) }
 {
-    let flat = flat_containers(alloc, text, options)?;
+    let mut flat = flat_containers(alloc, text, options)?;
+    flat.shrink_to_fit();
     let layout = layout_of(alloc, text, options, style)?;
     print(alloc, text, options, &layout, flat.as_slice())
 }

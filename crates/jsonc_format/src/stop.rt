@@ -1,0 +1,8 @@
+//! Why the pieces of a text are not read on.
+
+/// Memory is wanted, or the text is no lexemes and comments with blanks between them.
+#[derive(Clone, Copy, Drop)]
+pub(crate) enum Stop {
+    Memory,
+    NoPieces,
+}
