@@ -1,6 +1,6 @@
 //! Each rule of the layout by its rows: a text, how it is formatted, and what it becomes.
 
-use failing_alloc::in_turn::is_refused_in_turn;
+use failing_alloc::in_turn::answers_in_turn;
 use failing_alloc::outcome::Outcome;
 use jsonc_format::format::format_text;
 use jsonc_format::style::{Level, LineEnd, Style};
@@ -126,10 +126,12 @@ fn comes<A: Allocator + Copy>(alloc: A, row: &Row) -> Outcome {
 }
 
 /// Whether each row becomes its text, once more as it is, and with each request for memory refused in turn.
+///
+/// The spare room of a list is given back by a request for less, and a text is formatted though that was refused.
 fn holds(alloc: Global, rows: &[Row]) -> bool {
     for row in rows {
         let again = (row.2, row.1, row.2);
-        if !is_refused_in_turn(alloc, |heap| comes(heap, row)) {
+        if !answers_in_turn(alloc, |heap| comes(heap, row)) {
             return false;
         }
         if comes(alloc, &again) != Outcome::Answered {

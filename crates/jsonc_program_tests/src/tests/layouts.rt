@@ -1,7 +1,7 @@
 //! Layouts: what the program makes of texts by them, and what it mends, with memory refused in turn.
 
 use crate::tests::edits::is_of_memory;
-use failing_alloc::in_turn::is_refused_in_turn;
+use failing_alloc::in_turn::{answers_in_turn, is_refused_in_turn};
 use failing_alloc::outcome::Outcome;
 use jsonc_engine::fault::Fault;
 use jsonc_format::{Level, Style};
@@ -70,11 +70,12 @@ fn outcome_at<A: Allocator + Copy>(heap: A, number: usize) -> Outcome {
     }
 }
 
+/// The spare room of a list is given back by a request for less, and a text is formatted though that was refused.
 #[test]
 fn each_request_of_a_layout_is_refused_in_turn(rt: HostRuntime) -> Result<(), Fail> {
     for number in 0..ROWS.len() {
         assert!(rt;
-            is_refused_in_turn(rt.alloc(), |heap| outcome_at(heap, number)),
+            answers_in_turn(rt.alloc(), |heap| outcome_at(heap, number)),
             "layout {number}"
         );
     }
@@ -98,7 +99,7 @@ fn outcome_of_diff<A: Allocator + Copy>(heap: A) -> Outcome {
 
 #[test]
 fn each_request_of_a_diff_of_a_file_is_refused_in_turn(rt: HostRuntime) -> Result<(), Fail> {
-    assert!(rt; is_refused_in_turn(rt.alloc(), |heap| outcome_of_diff(heap)));
+    assert!(rt; answers_in_turn(rt.alloc(), |heap| outcome_of_diff(heap)));
     Ok(())
 }
 
