@@ -13,7 +13,7 @@ use Rattle.jsonc_tree.proofs.Order.{following_end, following_is, following_next,
 use Rattle.jsonc_tree.proofs.OrderedTrees.{printed_at-ordered_tree}
 use Rattle.jsonc_cst.specs.declared.cst.node.CstNode.{CstNode}
 use Rattle.jsonc_cst.specs.Nodes.{number_of, typed_at}
-use Rattle.jsonc_cst.specs.Ranges.{place_past, range_from, with_ranges, IsBefore, IsRangeOf}
+use Rattle.jsonc_cst.specs.Ranges.{place_past, range_from, with_ranges, with_starts, IsBefore, IsRangeOf, IsStartOf}
 use Rattle.jsonc_cst.specs.Readings.{typed_all}
 use Rattle.jsonc_cst.proofs.Descendants.{IsUnder}
 use Rattle.jsonc_cst.proofs.Family.{number_of-typed}
@@ -24,8 +24,12 @@ pub nodes_of_ranged : (ns : List Node) (at : Option ℕ) (row : List ℕ) → ma
 nodes_of_ranged ns at [] = refl
 nodes_of_ranged ns at (n ∷ row) = ap (λ l. typed_at ns n ∷ l) (nodes_of_ranged ns (place_past at (length (text_at ns n))) row)
 
+pub nodes_of_placed : (ns : List Node) (at : Option ℕ) (row : List ℕ) → map (λ x. x.0) (with_starts ns at row) ≡ typed_all ns row
+nodes_of_placed ns at [] = refl
+nodes_of_placed ns at (n ∷ row) = ap (λ l. typed_at ns n ∷ l) (nodes_of_placed ns (place_past at (length (text_at ns n))) row)
+
 -- what holds of the first parts of pairs
-pub all_firsts : (P : CstNode → Type 0) (xs : List (CstNode × Option Range)) → All P (map (λ x. x.0) xs) → All (λ x. P x.0) xs
+pub all_firsts : {B : Type 0} (P : CstNode → Type 0) (xs : List (CstNode × B)) → All P (map (λ x. x.0) xs) → All (λ x. P x.0) xs
 all_firsts P [] h = All-nil (λ x. P x.0)
 all_firsts P (x ∷ xs) h = All-cons (λ y. P y.0) x xs (All-head P x.0 (map (λ y. y.0) xs) h) (all_firsts P xs (All-tail P x.0 (map (λ y. y.0) xs) h))
 
@@ -150,3 +154,24 @@ module _ (ns : List Node) (tree : IsTree ns) where
       let number : n ≡ number_of (typed_at ns n) = sym (number_of-typed (content_at ns n) n) in
       let here : HasRange (typed_at ns n, range_from at (length (printed_at ns n))) = subst (λ k. IsRangeOf ns k (range_from at (length (printed_at ns n)))) number (range_here end n at u h) in
       subst (λ k. All HasRange (with_ranges ns at (k ∷ row))) same (All-cons HasRange (typed_at ns n, range_from at (length (printed_at ns n))) (with_ranges ns (place_past at (length (text_at ns n))) row) here later)
+
+  start_here : (end n : ℕ) (at : Option ℕ) → IsUnder ns end n → StandsAt end at n → IsStartOf ns n at
+  start_here end n None u h = record { start = tt; none = λ over. h (above_stands end n u.1 over) }
+  start_here end n (Some s) u h = record { start = stands_at ns tree s n (Some n) h.1 refl (over_trans ns 0 end n h.0 u.1); none = tt }
+
+  abbrev HasStart : CstNode × Option ℕ → Type 0
+  HasStart x = IsStartOf ns (number_of x.0) x.1
+
+  -- each has the place where it begins
+  pub all_placed : (end : ℕ) → end < length ns → (row : List ℕ) (o at : Option ℕ) → row ≡ rest_at ns end o → IfSome o (IsUnder ns end) → IfSome o (StandsAt end at) → All HasStart (with_starts ns at row)
+  all_placed end there [] o at e u h = All-nil HasStart
+  all_placed end there (x ∷ row) None at e u h = let wrong : x ∷ row ≡ [] = e in cc
+  all_placed end there (x ∷ row) (Some n) at e u h =
+      let on = step end n u in
+      let both : x ∷ row ≡ n ∷ rest_at ns end on.0 = e ∙ on.1 in
+      let same : n ≡ x = cc in
+      let rest : row ≡ rest_at ns end on.0 = cc in
+      let later = all_placed end there row on.0 (place_past at (length (text_at ns n))) rest on.2 (next_stands end n at on.0 there u on.2 on.1 h) in
+      let number : n ≡ number_of (typed_at ns n) = sym (number_of-typed (content_at ns n) n) in
+      let here : HasStart (typed_at ns n, at) = subst (λ k. IsStartOf ns k at) number (start_here end n at u h) in
+      subst (λ k. All HasStart (with_starts ns at (k ∷ row))) same (All-cons HasStart (typed_at ns n, at) (with_starts ns (place_past at (length (text_at ns n))) row) here later)

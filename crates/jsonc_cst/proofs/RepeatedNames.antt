@@ -3,9 +3,10 @@ use Rattle.std.proofs.Common.{◌≡◌, ◌∙◌, ◌+◌, ◌<◌, ◌↔◌,
 use Rattle.std.specs.Bool.{Decides}
 use Rattle.std.specs.List.{All, list_any}
 use Rattle.std.specs.String.{string_eq}
+use Rattle.std.specs.declared.borrow.CowStr.{CowStr}
 use Rattle.std.proofs.lemmas.Bool.{false≢true}
 use Rattle.std.proofs.lemmas.List.{take_more}
-use Rattle.std.proofs.lemmas.List.Elements.{All-push, Contains-append_left, Contains-push, Contains-push_cases}
+use Rattle.std.proofs.lemmas.List.Elements.{All-contains, All-push, Contains-append_left, Contains-push, Contains-push_cases}
 use Rattle.std.proofs.lemmas.List.Folds.{Any-from_list_any, list_any-from_Any}
 use Rattle.std.proofs.lemmas.Slice.Eq.{bytes_eq-Decides}
 use Rattle.std.proofs.lemmas.Str.{IsUtf8-string_bytes}
@@ -13,9 +14,9 @@ use Rattle.indexmap.specs.IndexSet.{insert_key}
 use Rattle.jsonc_tree.specs.Content.{property}
 use Rattle.jsonc_tree.specs.Tree.{Node, content_at}
 use Rattle.jsonc_layout.specs.nodes.Kinds.{is_property}
-use Rattle.jsonc_layout.specs.nodes.Names.{HasName, IsNamed, NameReads}
+use Rattle.jsonc_layout.specs.nodes.Names.{HasName, IsNamed, NameReads, ReadsAs}
 use Rattle.jsonc_layout.proofs.lemmas.nodes.NodeNames.{has_name_once, same_text}
-use Rattle.jsonc_cst.specs.RepeatedNames.{AreRepeated, none, fresh, repeated, HasNamed, HasText, IsNameJoined, IsTextJoined, RepeatsName, RepeatsOneOf}
+use Rattle.jsonc_cst.specs.RepeatedNames.{AreRepeated, none, fresh, repeated, HasNamed, HasText, IsNameJoined, IsPassed, IsTextJoined, RepeatsName, RepeatsOneOf}
 
 module _ {A : Type 0} where
   abbrev text : String A → List ℕ
@@ -72,6 +73,10 @@ module _ {A : Type 0} where
   pub property_named : (ns : List Node) (n : ℕ) → content_at ns n ≡ property → (read : Option (String A)) → NameReads (HasName ns n) read → NameReads (λ v. IsNamed ns v n) read
   property_named ns n e None h = λ v k. h v k.1
   property_named ns n e (Some s) h = (e, h)
+
+  pub property_lent : (ns : List Node) (n : ℕ) → content_at ns n ≡ property → (read : Option (CowStr A)) → ReadsAs (HasName ns n) read → ReadsAs (λ v. IsNamed ns v n) read
+  property_lent ns n e None h = λ v k. h v k.1
+  property_lent ns n e (Some s) h = (e, h)
 
   module _ (ns : List Node) (n : ℕ) (old : List (String A)) where
     module _ (w : List ℕ) (named : IsNamed ns w n) where
@@ -133,6 +138,44 @@ module _ {A : Type 0} where
   pub next_names : (ns : List Node) (row : List ℕ) (k n : ℕ) (old new : List (String A)) → k < length row → n ≡ get_or row k 0 → AreNames ns (take k row) old → IsNameJoined ns old n new → AreNames ns (take (k + 1) row) new
   next_names ns row k n old new h e names joined =
       subst (λ l. AreNames ns l new) (sym (take_more row k 0 h)) (one_more_name ns (take k row) (get_or row k 0) old names new (subst (λ m. IsNameJoined ns old m new) e joined))
+
+-- one of some nodes and one more has a name
+named_cases : (ns : List Node) (row : List ℕ) (n : ℕ) (v : List ℕ) → HasNamed ns (row ++ n ∷ []) v → HasNamed ns row v ⊎ IsNamed ns v n
+named_cases ns row n v (m, among, named) = elim (Contains-push_cases row n m among) [ inl k ↦ inl (m, k, named) | inr e ↦ inr (subst (IsNamed ns v) (sym e) named) ]
+
+named_more : (ns : List Node) (row : List ℕ) (n : ℕ) (v : List ℕ) → HasNamed ns row v ⊎ IsNamed ns v n → HasNamed ns (row ++ n ∷ []) v
+named_more ns row n v (inl (m, among, named)) = (m, Contains-append_left row (n ∷ []) m among, named)
+named_more ns row n v (inr named) = (n, Contains-push row n, named)
+
+-- a property of a name that none of those passed has is added to them
+pub passed_named : (ns : List Node) (old : List ℕ) (n : ℕ) (w : List ℕ) (new : List ℕ) → IsNamed ns w n → All (λ m. IsNamed ns w m → ⊥) old → new ≡ old ++ n ∷ [] → IsPassed ns old n new
+passed_named ns old n w new named lacking e = record {
+  apart = λ (v, (m, among, is), mine). All-contains (λ m. IsNamed ns w m → ⊥) old m lacking among (subst (λ u. IsNamed ns u m) (has_name_once ns n v w mine.1 named.1) is);
+  joined = λ v h. subst (λ l. HasNamed ns l v) (sym e) (named_more ns old n v h);
+}
+
+-- a node without a name is passed
+pub passed_nameless : (ns : List Node) (old : List ℕ) (n : ℕ) → ((v : List ℕ) → IsNamed ns v n → ⊥) → IsPassed ns old n old
+passed_nameless ns old n nobody = record {
+  apart = λ r. nobody r.0 r.2;
+  joined = λ v h. elim h [ inl k ↦ k | inr k ↦ absurd (nobody v k) ];
+}
+
+-- the names of some children, none of which repeats another, are those of the nodes passed
+pub record AreApart (ns : List Node) (row passed : List ℕ) : Type 0 where
+  pub names : (v : List ℕ) → HasNamed ns row v → HasNamed ns passed v
+  pub apart : AreRepeated ns row []
+
+pub none_apart : (ns : List Node) (passed : List ℕ) → AreApart ns [] passed
+none_apart ns passed = record { names = λ v h. absurd (omega (arith, h.1.1)); apart = none }
+
+-- one more child
+pub next_apart : (ns : List Node) (row : List ℕ) (k n : ℕ) (old new : List ℕ) → k < length row → n ≡ get_or row k 0 → AreApart ns (take k row) old → IsPassed ns old n new → AreApart ns (take (k + 1) row) new
+next_apart ns row k n old new h e so_far passed =
+    subst (λ l. AreApart ns l new) (sym (take_more row k 0 h ∙ ap (λ m. take k row ++ m ∷ []) (sym e))) (record {
+      names = λ v has. passed.joined v (elim (named_cases ns (take k row) n v has) [ inl x ↦ inl (so_far.names v x) | inr x ↦ inr x ]);
+      apart = fresh (take k row) [] n so_far.apart (λ r. passed.apart (r.0, so_far.names r.0 r.1, r.2));
+    })
 
 -- of no nodes none repeats
 pub none_repeated : (ns : List Node) (found : List ℕ) → found ≡ [] → AreRepeated ns [] found

@@ -35,6 +35,12 @@ pub record IsRangeOf (ns : List Node) (n : ℕ) (answer : Option Range) : Type 0
   pub range : IfSome answer (λ r. PrintsRange ns n r.start r.end)
   pub none : IfNone answer (IsOver ns 0 n → 2 ^ 64 ≤ length (printed (ordered_tree ns 0)))
 
+-- This is what is answered as the place where the node begins. Where it is a place, so many bytes are before the node; where it is none, the node is not in the
+-- document, or the text has more bytes than memory can count.
+pub record IsStartOf (ns : List Node) (n : ℕ) (answer : Option ℕ) : Type 0 where
+  pub start : IfSome answer (IsBefore ns n)
+  pub none : IfNone answer (IsOver ns 0 n → 2 ^ 64 ≤ length (printed (ordered_tree ns 0)))
+
 -- a place, if memory can count to it
 abbrev pub counted : ℕ → Option ℕ
 counted n = if nat_lt n (2 ^ 64) then Some n else None
@@ -52,3 +58,8 @@ range_from at size = option_and_then (λ k. option_map (λ e. record { start = k
 abbrev pub with_ranges : List Node → Option ℕ → List ℕ → List (CstNode × Option Range)
 with_ranges ns at [] = []
 with_ranges ns at (n ∷ row) = (typed_at ns n, range_from at (length (printed_at ns n))) ∷ with_ranges ns (place_past at (length (text_at ns n))) row
+
+-- the same nodes, each with the place where it begins
+abbrev pub with_starts : List Node → Option ℕ → List ℕ → List (CstNode × Option ℕ)
+with_starts ns at [] = []
+with_starts ns at (n ∷ row) = (typed_at ns n, at) ∷ with_starts ns (place_past at (length (text_at ns n))) row

@@ -22,6 +22,11 @@ pub data AreRepeated (ns : List Node) : List ℕ → List ℕ → Type 0 where
   fresh : (row found : List ℕ) (n : ℕ) → AreRepeated ns row found → (RepeatsName ns row n → ⊥) → AreRepeated ns (row ++ n ∷ []) found
   repeated : (row found : List ℕ) (n : ℕ) → AreRepeated ns row found → RepeatsName ns row n → AreRepeated ns (row ++ n ∷ []) (found ++ n ∷ [])
 
+-- The node has the name of none of those passed; with it, if it has a name, their names are those of the new ones.
+pub record IsPassed (ns : List Node) (old : List ℕ) (n : ℕ) (new : List ℕ) : Type 0 where
+  pub apart : RepeatsName ns old n → ⊥
+  pub joined : (v : List ℕ) → HasNamed ns old v ⊎ IsNamed ns v n → HasNamed ns new v
+
 module _ {A : Type 0} where
   -- the properties of an object whose name an earlier one has, in order
   abbrev pub AreRepeatedIn : CstRootNode A → CstObject → List CstObjectProp → Type 0

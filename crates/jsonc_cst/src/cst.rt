@@ -39,7 +39,7 @@ mod siblings;
 mod values;
 
 pub use access::{AncestorIterator, node_at};
-pub use descendants::{DescendantIterator, RangedDescendantIterator};
+pub use descendants::{DescendantIterator, PlacedDescendantIterator, RangedDescendantIterator};
 pub use input::CstInputValue;
 use jsonc_build::parse_tree;
 pub use jsonc_edit::{EditError, TrailingCommaMode};
@@ -101,7 +101,7 @@ impl<A: Allocator + Copy> CstRootNode<A> {
         ensures printed { IfOk result (λ s. string_bytes s ≡ printed_of self.now) }
         ensures memory { IfErr result (λ e. e ≡ EditError.OutOfMemory) }
     {
-        let Ok(text) = self.tree.to_string(self.alloc) else {
+        let Ok(text) = self.tree.text(self.alloc) else {
             return Err(EditError::OutOfMemory);
         };
         Ok(text)

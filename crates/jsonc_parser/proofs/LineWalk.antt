@@ -1,10 +1,10 @@
 -- Lines and columns: a walk over a text, the place of a line and a column, and the line and column of a place.
-use Rattle.std.proofs.Common.{◌≡◌, ◌∙◌, refl, sym, ap, subst, arith, ℕ, ◌+◌, ◌-◌, ◌<◌, ◌≤◌, List, [], ◌∷◌, ◌++◌, length, drop, chars, slice_range, IsUtf8, IsCharBoundary, Bool, true, false, cond, ◌⊎◌, inl, inr, Option, None, Some, IfSome, IfNone}
-use Rattle.std.proofs.lemmas.Bool.{cases_lt, lt-ltb, le-ltb}
+use Rattle.std.proofs.Common.{◌≡◌, ◌∙◌, refl, sym, ap, subst, arith, ℕ, ◌+◌, ◌-◌, ◌<◌, ◌≤◌, List, [], ◌∷◌, ◌++◌, length, drop, chars, slice_range, IsUtf8, IsCharBoundary, Bool, true, false, cond, ◌&&◌, ◌||◌, ◌==◌, ◌⊎◌, inl, inr, Option, None, Some, IfSome, IfNone}
+use Rattle.std.proofs.lemmas.Bool.{cases_lt, lt-ltb, le-ltb, ne_eqb}
 use Rattle.std.proofs.lemmas.List.{append-nil, same_from_push, append_assoc, length-drop}
 use Rattle.std.proofs.lemmas.Str.{len_utf8_bounds, IsCharBoundary-start}
 use Rattle.std.specs.Char.{len_utf8}
-use Rattle.jsonc_text.specs.Text.{byte_length, rest, Spans}
+use Rattle.jsonc_text.specs.Text.{byte_length, next, no, rest, Spans}
 use Rattle.jsonc_text.specs.Places.{ends_line, walked, LineColumn}
 use Rattle.jsonc_text.specs.declared.line.LineAndColumn.{LineAndColumn}
 use Rattle.jsonc_text.proofs.Cuts.{byte_length-append, byte_length-one, chars_between, rest_past}
@@ -20,6 +20,21 @@ IsNarrow w = (c : ℕ) → w c ≤ len_utf8 c
 -- a character takes two UTF-16 code units above U+FFFF, and one otherwise
 pub one_unit : (c : ℕ) → c < 0x1_0000 → utf16_units c ≡ 1
 one_unit c h = rw (lt-ltb c 0x1_0000 h) refl
+
+-- neither an LF nor a CR is a character after them
+no_end_there : (c : ℕ) (r : List ℕ) → 0x20 ≤ c → ends_line c r ≡ false
+no_end_there c r h =
+    let lf : c == 0x0A ≡ false = ne_eqb c 0x0A (λ e. omega (arith, h, e)) in
+    let cr : c == 0x0D ≡ false = ne_eqb c 0x0D (λ e. omega (arith, h, e)) in
+    let lone = no (λ d. d == 0x0A) (next r) in
+    ap (λ b. b || (c == 0x0D && lone)) lf ∙ ap (λ b. b && lone) cr
+
+-- a plain character leads one column further, whatever a column counts
+pub plain_past : (u : ColumnUnit) (h k c : ℕ) (r : List ℕ) → 0x20 ≤ c → c < 0x7F → (h, k + 1) ≡ past (units u) (h, k) c r
+plain_past Character h k c r low high = ap (λ b. cond {A = ℕ × ℕ} b (h + 1, 1) (h, k + 1)) (sym (no_end_there c r low))
+plain_past Utf16 h k c r low high =
+    let one : utf16_units c ≡ 1 = one_unit c (omega (arith, high)) in
+    ap (λ n. (h, k + n)) (sym one) ∙ ap (λ b. cond {A = ℕ × ℕ} b (h + 1, 1) (h, k + utf16_units c)) (sym (no_end_there c r low))
 
 pub two_units : (c : ℕ) → 0x1_0000 ≤ c → utf16_units c ≡ 2
 two_units c h = rw (le-ltb c 0x1_0000 h) refl

@@ -22,7 +22,8 @@ pub use jsonc_cst::cst::{
     CstLeafNode, CstNewline, CstNewlineKind, CstNode, CstNullKeyword, CstNumberLit, CstObject,
     CstObjectProp, CstRoot, CstRootNode, CstStringLit, CstToken, CstWhitespace, CstWordLit,
     DescendantIterator, EditError, NextSiblingIterator, ObjectPropName, ParentNode, Pieces,
-    PreviousSiblingIterator, RangedDescendantIterator, Shown, TrailingCommaMode, TypedNode, input,
+    PlacedDescendantIterator, PreviousSiblingIterator, RangedDescendantIterator, Shown,
+    TrailingCommaMode, TypedNode, input,
 };
 pub use jsonc_cst::sorting::{
     BlankLineHeaders, ElementSort, HeaderRule, HeadersBy, KeptHeaders, NoHeaders, PropertySort,

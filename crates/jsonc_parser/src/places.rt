@@ -1,12 +1,13 @@
 //! Lines and columns of places in a text, and places by line and column.
 
-ghost use Rattle.std.specs.Prelude.{◌≡◌, ◌+◌, ◌<◌, ◌≤◌, ◌^◌, ℕ, chars, IfNone, IfSome, IsCharBoundary};
+ghost use Rattle.std.specs.Prelude.{◌≡◌, ◌+◌, ◌<◌, ◌≤◌, ◌^◌, ℕ, chars, length, IfNone, IfSome, IsCharBoundary, IsTrue};
 ghost use Rattle.jsonc_text.specs.Places.{LineColumn};
 ghost use Rattle.jsonc_text.specs.Text.{Spans};
-ghost use Rattle.jsonc_parser.specs.Places.{LineColumnBy, LineColumnUtf16, past, units};
+ghost use Rattle.jsonc_parser.specs.Places.{LineColumnBy, LineColumnUtf16, StepsPast, past, units};
 
 pub mod laws;
 
+use jsonc_text::chars::char_at;
 use jsonc_text::line::ends_line;
 pub use jsonc_text::line::{LineAndColumn, line_and_column};
 
@@ -50,6 +51,49 @@ fn past(at: LineAndColumn, c: char, rest: &str, unit: ColumnUnit) -> LineAndColu
     }
 }
 
+/// A place that a walk has reached, and its line and column.
+#[derive(Clone, Copy)]
+struct Reached {
+    place: usize,
+    at: LineAndColumn,
+}
+
+/// Whether a byte is a character that takes one column, in any unit, and ends no line.
+fn is_plain(byte: u8) -> bool
+    ensures { IsTrue result → (0x20 ≤ byte) × (byte < 0x7F) }
+{
+    byte >= b' ' && byte <= b'~'
+}
+
+/// A walk's next step, over one character. A plain one is not decoded.
+#[inline(always)]
+fn step(text: &str, from: Reached, unit: ColumnUnit) -> Reached
+    requires boundary { IsCharBoundary text.now from.place }
+    requires inside { from.place < length text.now }
+    requires line { from.at.line + 1 < 2 ^ 64 }
+    requires column { from.at.column + 2 < 2 ^ 64 }
+    ensures { StepsPast (units unit) text.now from result }
+{
+    let bytes = text.as_bytes();
+    let byte = bytes[from.place];
+    if is_plain(byte) {
+        let at = LineAndColumn {
+            line: from.at.line,
+            column: from.at.column + 1,
+        };
+        return Reached {
+            place: from.place + 1,
+            at,
+        };
+    }
+    let Some(c) = char_at(text, from.place) else {
+        unreachable!()
+    };
+    let place = from.place + c.len_utf8();
+    let at = past(from.at, c, &text[place..], unit);
+    Reached { place, at }
+}
+
 /// The line and column of a place, by a walk from a place before it, or from itself, which is in the line and column `at`.
 pub(crate) fn walk_to(
     text: &str,
@@ -62,15 +106,11 @@ pub(crate) fn walk_to(
     requires at { LineColumnBy (units unit) (chars text.now) from at.line at.column }
     ensures { LineColumnBy (units unit) (chars text.now) place result.line result.column }
 {
-    let after = text.len() - place;
-    let mut rest = text[from..].chars();
-    let mut here = at;
-    while rest.as_str().len() > after
-        && let Some(c) = rest.next()
-    {
-        here = past(here, c, rest.as_str(), unit);
+    let mut reached = Reached { place: from, at };
+    while reached.place < place {
+        reached = step(text, reached, unit);
     }
-    here
+    reached.at
 }
 
 /// The place of a line and column, looked for from a place that is in the line and column `at` and not after it.

@@ -289,8 +289,8 @@ fn lint(alloc: Global, text: &str) -> Result<usize, Fault<Global>> {
     let document = parsed(alloc, text)?;
     let lines = LineIndex::new(alloc, text)?;
     let mut sum = 0usize;
-    for (node, range) in document.descendants_with_ranges(CstNode::from(document.root())) {
-        let Some(range) = range else {
+    for (node, start) in document.descendants_with_starts(CstNode::from(document.root())) {
+        let Some(start) = start else {
             continue;
         };
         sum = sum.saturating_add(1);
@@ -298,7 +298,7 @@ fn lint(alloc: Global, text: &str) -> Result<usize, Fault<Global>> {
             sum = sum.saturating_add(repeated_in(&document, object)?);
         }
         if node.as_object_prop().is_some()
-            && let Some(at) = lines.line_and_column(range.start)
+            && let Some(at) = lines.line_and_column(start)
         {
             sum = sum.saturating_add(at.column);
         }

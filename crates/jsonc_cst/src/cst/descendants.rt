@@ -5,7 +5,7 @@ ghost use Rattle.std.specs.List.{All};
 ghost use Rattle.std.specs.Iterator.{YieldsFirst, item_count};
 ghost use Rattle.jsonc_cst.specs.Document.{nodes_of, HasNode};
 ghost use Rattle.jsonc_cst.specs.Nodes.{number_of};
-ghost use Rattle.jsonc_cst.specs.Ranges.{IsRangeOf};
+ghost use Rattle.jsonc_cst.specs.Ranges.{IsRangeOf, IsStartOf};
 ghost use Rattle.jsonc_cst.specs.Readings.{descendants_of};
 
 use super::CstRootNode;
@@ -104,6 +104,51 @@ impl<'a, A: Allocator> Iterator for RangedDescendantIterator<'a, A> {
     }
 }
 
+/// An iterator over a node and all below it, each with the place where it begins, in the order of the document.
+///
+/// It is seen as the list of those that remain.
+#[derive(Drop)]
+pub struct PlacedDescendantIterator<'a, A: Allocator> {
+    tree: &'a Tree<A>,
+    end: usize,
+    next: Option<usize>,
+    at: Option<usize>,
+}
+
+impl<'a, A: Allocator> Model for PlacedDescendantIterator<'a, A> {
+    ghost use Rattle.std.specs.Prelude.{◌<◌, ℕ, length, IfSome, List, Option};
+    ghost use Rattle.jsonc_tree.specs.Order.{rest_at};
+    ghost use Rattle.jsonc_tree.specs.Tree.{IsOver};
+    ghost use Rattle.jsonc_cst.specs.declared.cst.node.CstNode.{CstNode};
+    ghost use Rattle.jsonc_cst.specs.Ranges.{with_starts};
+
+    ghost Value = { List (CstNode × Option ℕ) };
+
+    ghost view = { λ it. with_starts it.tree.now.nodes it.at (rest_at it.tree.now.nodes it.end it.next) };
+
+    ghost invariant = { λ it. IfSome it.next (λ n. n < length it.tree.now.nodes)
+        × IfSome it.next (λ n. IsOver it.tree.now.nodes it.end n) };
+}
+
+impl<'a, A: Allocator> Iterator for PlacedDescendantIterator<'a, A> {
+    type Item = (CstNode, Option<usize>);
+
+    ghost next_gives = { YieldsFirst (λ rest. rest) };
+
+    ghost remaining = { item_count (λ rest. rest) };
+
+    fn next(&mut self) -> Option<(CstNode, Option<usize>)> {
+        let nodes = self.tree;
+        let at = self.at;
+        let Some(number) = self.next else {
+            return None;
+        };
+        self.at = place_past(at, own_length(nodes.kind(number)));
+        self.next = nodes.next_in_order(self.end, number);
+        Some((node_at(nodes, number), at))
+    }
+}
+
 impl<A: Allocator> CstRootNode<A> {
     /// An iterator over a node and all below it, in the order of the document.
     ///
@@ -120,6 +165,26 @@ impl<A: Allocator> CstRootNode<A> {
             tree: &self.tree,
             end: number,
             next: Some(number),
+        }
+    }
+
+    /// An iterator over a node and all below it, in the order of the document, each with the place where it begins.
+    ///
+    /// The place counts the bytes of the document's text before it, None throughout for a detached node. The nodes
+    /// before the node are passed once, and those below it once: it takes a fraction of the time of
+    /// [`CstRootNode::descendants_with_ranges`], which looks for the end of each container too. Nothing is allocated.
+    pub fn descendants_with_starts(&self, node: CstNode) -> PlacedDescendantIterator<'_, A>
+        requires { HasNode self.now node }
+        ensures nodes { map (λ x. x.0) result ≡ descendants_of self.now node }
+        ensures in_document { All (λ x. HasNode self.now x.0) result }
+        ensures starts { All (λ x. IsStartOf (nodes_of self.now) (number_of x.0) x.1) result }
+    {
+        let first = node.number();
+        PlacedDescendantIterator {
+            tree: &self.tree,
+            end: first,
+            next: Some(first),
+            at: bytes_before(&self.tree, first),
         }
     }
 

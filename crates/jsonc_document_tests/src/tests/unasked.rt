@@ -262,6 +262,20 @@ fn walk_told<A: Allocator>(doc: &CstRootNode<A>) -> bool {
     nodes.next() == None
 }
 
+/// A walk with starts comes past the same nodes, each with the place where its range begins.
+fn starts_told<A: Allocator>(doc: &CstRootNode<A>) -> bool {
+    let mut nodes = doc.descendants_with_ranges(CstNode::from(doc.root()));
+    for (node, start) in doc.descendants_with_starts(CstNode::from(doc.root())) {
+        let Some((same, Some(range))) = nodes.next() else {
+            return false;
+        };
+        if same != node || start != Some(range.start) {
+            return false;
+        }
+    }
+    nodes.next().is_none()
+}
+
 /// Whether this is told of a text though all is refused once it is read, and nothing asked for.
 fn is_told_unasked<T: Fn(&CstRootNode<&Refusing<Global>>) -> bool>(
     alloc: Global,
@@ -283,6 +297,7 @@ fn other_readings_take_no_memory(rt: HostRuntime) {
     assert!(rt; is_told_unasked(rt.alloc(), SPREAD, |doc| rows_told(doc)));
     assert!(rt; is_told_unasked(rt.alloc(), LEAVES, |doc| leaves_told(doc)));
     assert!(rt; is_told_unasked(rt.alloc(), SPREAD, |doc| walk_told(doc)));
+    assert!(rt; is_told_unasked(rt.alloc(), SPREAD, |doc| starts_told(doc)));
 }
 
 /// Texts, how their lines end, and whether they use trailing commas. What is less deep tells, and of what is as deep

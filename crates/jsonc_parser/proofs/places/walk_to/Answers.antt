@@ -1,39 +1,52 @@
-use Rattle.std.proofs.Common.{chars, length, drop, length-drop, sym, ap, subst, arith, IsUtf8, ◌∙◌, ◌<◌, ◌≤◌}
-use Rattle.std.proofs.lemmas.Str.{chars_past_char, IsUtf8-drop}
+use Rattle.std.proofs.Common.{arith, chars, drop, length, length-drop, sym, IsUtf8, ◌<◌, ◌≤◌}
+use Rattle.std.proofs.lemmas.Str.{IsUtf8-drop, len_utf8_bounds}
 use Rattle.jsonc_text.specs.Text.{rest, byte_length}
-use Rattle.jsonc_parser.specs.Places.{units, past}
+use Rattle.jsonc_text.proofs.Cuts.{step_place}
+use Rattle.jsonc_parser.specs.Places.{units}
 use Rattle.jsonc_parser.proofs.Changes.{size_of}
-use Rattle.jsonc_parser.proofs.LineWalk.{WalksTo, narrow, walks_to_start, walks_to_on, walks_to_end, walked_fits}
+use Rattle.jsonc_parser.proofs.LineWalk.{narrow, walks_to_start, walks_to_on, walks_to_end, walked_fits}
 use Rattle.jsonc_parser.proofs.places.walk_to.Goals as goal
 
-pub loop-rest-init : goal.loop-rest-init
-loop-rest-init c =
-    let w = units c.args.unit in
-    subst (λ t. WalksTo w (chars c.args.text.now) (chars t) (rest c.args.text.now c.args.place) c.args.at.line c.args.at.column) (sym (c.chars-rest.ensures.rest ∙ c.range_from.ensures.value))
-    (walks_to_start w _ _ _ _ _ (narrow c.args.unit) c.utf8.text c.requires.spans c.requires.at)
+pub loop-reached-init : goal.loop-reached-init
+loop-reached-init c = record { boundary = c.requires.spans.from; walks = walks_to_start (units c.args.unit) _ _ _ _ _ (narrow c.args.unit) c.utf8.text c.requires.spans c.requires.at }
 
-pub past-here-requires-clause-line : goal.past-here-requires-clause-line
-past-here-requires-clause-line c =
-    let x = rw (sym c.as_str.ensures) at c.loop-rest.invariant in
-    omega (arith, (walked_fits _ _ _ _ _ c.utf8.text c.as_str.utf8 x.walk).0)
+pub step-reached-requires-clause-inside : goal.step-reached-requires-clause-inside
+step-reached-requires-clause-inside c = omega (arith, c.loop-reached-test.true, c.requires.spans.to.0)
 
-pub past-here-requires-clause-column : goal.past-here-requires-clause-column
-past-here-requires-clause-column c =
-    let x = rw (sym c.as_str.ensures) at c.loop-rest.invariant in
-    omega (arith, (walked_fits _ _ _ _ _ c.utf8.text c.as_str.utf8 x.walk).1)
+pub step-reached-requires-clause-line : goal.step-reached-requires-clause-line
+step-reached-requires-clause-line c =
+    let text = c.args.text.now in
+    let left = drop c.loop-reached.reached.place text in
+    omega (arith, (walked_fits (units c.args.unit) text left c.loop-reached.reached.at.line c.loop-reached.reached.at.column c.utf8.text (IsUtf8-drop text c.loop-reached.reached.place c.utf8.text c.loop-reached.invariant.boundary) c.loop-reached.invariant.walks.walk).0)
 
-pub loop-rest-preserved : goal.loop-rest-preserved
-loop-rest-preserved c =
-    let w = units c.args.unit in
-    let utf8 = subst IsUtf8 c.as_str.ensures c.as_str.utf8 in
-    let step = chars_past_char _ _ _ utf8 c.in-Some.ensures.steps.0 in
-    let more : byte_length (rest c.args.text.now c.args.place) < byte_length (chars c.loop-rest.rest.rest.now) =
-    omega (arith, c.loop-rest-test.true, ap length c.as_str.ensures, length-drop c.args.place c.args.text.now, size_of _ utf8, size_of _ (IsUtf8-drop c.args.text.now c.args.place c.utf8.text c.requires.spans.to)) in
-    walks_to_on _ _ _ _ _ _ _ _ _ _ (narrow c.args.unit) c.loop-rest.invariant step more
-    (c.past-here.ensures ∙ ap (λ t. past w (c.loop-rest.here.line, c.loop-rest.here.column) c.in-Some.c (chars t)) c.as_str-in-loop-rest.ensures)
+pub step-reached-requires-clause-column : goal.step-reached-requires-clause-column
+step-reached-requires-clause-column c =
+    let text = c.args.text.now in
+    let left = drop c.loop-reached.reached.place text in
+    omega (arith, (walked_fits (units c.args.unit) text left c.loop-reached.reached.at.line c.loop-reached.reached.at.column c.utf8.text (IsUtf8-drop text c.loop-reached.reached.place c.utf8.text c.loop-reached.invariant.boundary) c.loop-reached.invariant.walks.walk).1)
 
-pub returns-after-loop-rest : goal.returns-after-loop-rest
-returns-after-loop-rest c =
-    let x = rw (sym c.as_str.ensures) at c.loop-rest.invariant in
-    let few : length c.as_str.result.now ≤ length (drop c.args.place c.args.text.now) = omega (arith, c.loop-rest-test.false, length-drop c.args.place c.args.text.now) in
-    walks_to_end _ _ _ _ _ _ c.utf8.text c.as_str.utf8 c.requires.spans.to (IsUtf8-drop c.args.text.now c.args.place c.utf8.text c.requires.spans.to) x few
+pub loop-reached-preserved : goal.loop-reached-preserved
+loop-reached-preserved c =
+    let text = c.args.text.now in
+    let was = c.loop-reached.reached.place in
+    let one = c.step-reached.ensures in
+    let here = IsUtf8-drop text was c.utf8.text c.loop-reached.invariant.boundary in
+    let last = IsUtf8-drop text c.args.place c.utf8.text c.requires.spans.to in
+    let more : byte_length (rest text c.args.place) < byte_length (rest text was) =
+    omega (arith, c.loop-reached-test.true, length-drop was text, length-drop c.args.place text, size_of (drop was text) here, size_of (drop c.args.place text) last, c.requires.spans.to.0) in
+    record { boundary = one.1.1; walks = walks_to_on (units c.args.unit) _ _ _ one.0 _ _ _ _ _ (narrow c.args.unit) c.loop-reached.invariant.walks one.1.0 more one.2 }
+
+pub returns : goal.returns
+returns c =
+    let text = c.args.text.now in
+    let place = c.loop-reached.reached.place in
+    let few : length (drop place text) ≤ length (drop c.args.place text) = omega (arith, c.loop-reached-test.false, length-drop c.args.place text, length-drop place text) in
+    walks_to_end (units c.args.unit) text (drop place text) c.args.place _ _ c.utf8.text (IsUtf8-drop text place c.utf8.text c.loop-reached.invariant.boundary) c.requires.spans.to (IsUtf8-drop text c.args.place c.utf8.text c.requires.spans.to) c.loop-reached.invariant.walks few
+
+pub loop-reached-smaller : goal.loop-reached-smaller
+loop-reached-smaller c =
+    let text = c.args.text.now in
+    let was = c.loop-reached.reached.place in
+    let one = c.step-reached.ensures in
+    let on = step_place text was one.0 c.step-reached.result.place c.utf8.text c.loop-reached.invariant.boundary one.1 in
+    omega (arith, on, (len_utf8_bounds one.0).0, one.1.1.0)

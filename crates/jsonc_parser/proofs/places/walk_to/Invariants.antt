@@ -1,11 +1,11 @@
-use Rattle.std.proofs.Common.{chars, length}
+use Rattle.std.proofs.Common.{◌-◌, chars, length, IsCharBoundary}
 use Rattle.jsonc_text.specs.Text.{rest}
 use Rattle.jsonc_parser.specs.Places.{units}
 use Rattle.jsonc_parser.proofs.LineWalk.{WalksTo}
 use Rattle.jsonc_parser.proofs.places.walk_to.Given as goal
 
-abbrev pub invariant-loop-rest : goal.invariant-loop-rest
-invariant-loop-rest l = WalksTo (units l.unit) (chars l.text) (chars l.rest.rest.now) (rest l.text l.place) l.here.line l.here.column
+abbrev pub invariant-loop-reached : goal.invariant-loop-reached
+invariant-loop-reached l = record { boundary : IsCharBoundary l.text l.reached.place; walks : WalksTo (units l.unit) (chars l.text) (rest l.text l.reached.place) (rest l.text l.place) l.reached.at.line l.reached.at.column }
 
-abbrev pub decreases-loop-rest : goal.decreases-loop-rest
-decreases-loop-rest l = length l.rest.rest.now
+abbrev pub decreases-loop-reached : goal.decreases-loop-reached
+decreases-loop-reached l = length l.text - l.reached.place
