@@ -7,7 +7,7 @@ A row is all that a new edit takes here, but for what a new operation makes of a
 import typing
 
 import vectors
-from definitions import (comes_first, ends_with_its_line, gains, gains_comment, is_boolean, is_cleared, is_comment, is_multiline, leaves, loses_comment, puts_boolean,
+from definitions import (comes_first, ends_with_its_line, gains, gains_comment, is_boolean, is_cleared, is_comment, is_made, is_multiline, leaves, loses_comment, puts_boolean,
                          puts_name, puts_property, puts_value, sets_commas, sorts, stays)
 
 
@@ -154,7 +154,7 @@ def edit_of(case):
 
 
 def is_named(document, edit):
-    """Whether the edit has its place in the document (`IsNamed`)."""
+    """Whether the edit has its place in the document (`HasPlace`)."""
     needs = EDITS[edit[0]].needs
     return needs is None or edit[1] in NEEDS[needs](document)
 
@@ -176,7 +176,7 @@ def makes(old, edit, new):
     if not is_named(old, edit):
         return False
     operation, *asked = asked_for(old, edit)
-    return operation(old, *asked, new)
+    return is_made(operation, old, asked, new)
 
 
 def drawn_place(draw, name, places):

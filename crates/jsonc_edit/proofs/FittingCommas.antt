@@ -196,7 +196,7 @@ module _ (ns : List Node) (tree : IsTree ns) where
   level_over (n ∷ level) all =
       All-append (IsOver ns 0) (children_at ns n) (flat_map (children_at ns) level) (children_over ns tree n (All-head (IsOver ns 0) n level all)) (level_over level (All-tail (IsOver ns 0) n level all))
 
-  levels_over : (depth : ℕ) (level : List ℕ) → All (IsOver ns 0) level → All (IsOver ns 0) (levels depth ns level)
+  pub levels_over : (depth : ℕ) (level : List ℕ) → All (IsOver ns 0) level → All (IsOver ns 0) (levels depth ns level)
   levels_over zero level all = All-nil (IsOver ns 0)
   levels_over (suc depth) level all =
       All-append (IsOver ns 0) level (levels depth ns (flat_map (children_at ns) level)) all (levels_over depth (flat_map (children_at ns) level) (level_over level all))

@@ -84,7 +84,7 @@ module _ (P : Content → OrderedTree → Type 0) (ns : List Node) (tree : IsTre
       subst HoldsFrom (tree.found n p said)
       (holds_among (children_at ns p) (row_below ns p) (place_at ns n) (Shows-row_below ns tree p (parent_there ns tree n p said).1) all (λ e h. tree.in_tree p e h) (tree.within n p said))
 
-  holds_from_root : P (content_at ns 0) (row_below ns 0) → Everywhere P (row_below ns 0) → (n : ℕ) → IsOver ns 0 n → HoldsFrom n
+  pub holds_from_root : P (content_at ns 0) (row_below ns 0) → Everywhere P (row_below ns 0) → (n : ℕ) → IsOver ns 0 n → HoldsFrom n
   holds_from_root first all _ IsOver.itself = (first, all)
   holds_from_root first all n (IsOver.above {c = p} said rest) = holds_of_child n p said (holds_from_root first all p rest).1
 

@@ -19,7 +19,9 @@ pub mod OneLine
 pub mod FittingFinds
 pub mod FittingNodes
 pub mod FittingCommas
+pub mod IndentsTold
 pub mod FittingIndents
+pub mod LayoutTold
 pub mod Fitting
 pub mod NewPaths
 pub mod OneValue

@@ -27,10 +27,11 @@ use Rattle.jsonc_sort.specs.Rearranged.{headers_of}
 use Rattle.jsonc_sort.specs.Sorting.{Headers}
 use Rattle.jsonc_run.specs.Depth.{levels_in, levels_of_item, levels_of_member, needs_in}
 use Rattle.jsonc_run.specs.Edits.{PlainEdit, Allows, append_element, append_property, ensure_root, rearrange, remove, set_value}
-use Rattle.jsonc_run.specs.Named.{Asks, ensures_root}
+use Rattle.jsonc_run.specs.Named.{Asks, ensures_root, may_stay}
 use Rattle.jsonc_run.specs.Places.{IsEntryAt}
 use Rattle.jsonc_run.specs.promise.Steps.{IsStep, LeadsTo}
 use Rattle.jsonc_run.specs.texts.Edits.{Operation, Run, options_behind}
+use Rattle.jsonc_run.proofs.EnsuredValues.{kept_or_emptied}
 use Rattle.jsonc_run.proofs.Roots.{value_stands}
 use Rattle.jsonc_run.proofs.lemmas.promise.Leaves.{document_utf8}
 use Rattle.jsonc_cst.specs.Document.{HasNoDeeperValue, IsWithin}
@@ -104,11 +105,15 @@ by_step o ns new s At asked n over step fit =
     led o ns new s (asked l.0) (fit l.0 l.1) l.2
 
 fit_remove : (o : Options) (w : Option Plain) (path : List ℕ) → IsFit o w (remove path)
-fit_remove o w path = record { same = λ op is. ap (options_behind o) is; allows = tt; small = omega arith }
+fit_remove o w path = record { same = λ op (there, is). ap (options_behind o) is; allows = tt; small = omega arith }
+
+ensured_options : (o : Options) (s : Shape) (path : List ℕ) (stays : Bool) → options_behind o (kept_or_emptied s path stays) ≡ o
+ensured_options o s path true = refl
+ensured_options o s path false = refl
 
 fit_ensure : (o : Options) (w : Option Plain) (s : Shape) → IsFit o w (ensure_root s Keep)
 fit_ensure o None s = record { same = λ op is. ap (options_behind o) is; allows = tt; small = omega arith }
-fit_ensure o (Some v) s = record { same = λ op is. ap (options_behind o) is; allows = tt; small = omega arith }
+fit_ensure o (Some v) s = record { same = λ op is. ap (options_behind o) is ∙ ensured_options o s [] (may_stay s Keep v); allows = tt; small = omega arith }
 
 -- no container is around a document's value, and at most an object and a property around that of its entries
 levels_none : (w : Option Plain) → levels_in [] w ≡ 0
@@ -147,10 +152,10 @@ fit_set : (o : Options) (w : Option Plain) (path : List ℕ) (i : ℕ) (name : L
 fit_set o w path i name v is numbers fits =
     let same : levels_in path w ≡ levels_in (i ∷ []) w = ap (λ (p : List ℕ). levels_in p w) is in
     let small : around (plain.object (member name v no_members)) ≤ 512 = fits in
-    record { same = λ op is. ap (options_behind o) is; allows = numbers; small = omega (arith, same, entry_levels i w, small) }
+    record { same = λ op (there, is). ap (options_behind o) is; allows = numbers; small = omega (arith, same, entry_levels i w, small) }
 
 fit_order : (o : Options) (w : Option Plain) (path : List ℕ) (h : Headers) (order : List ℕ) → IsFit o w (rearrange true path h order)
-fit_order o w path h order = record { same = λ op is. ap (options_behind o) is; allows = tt; small = omega arith }
+fit_order o w path h order = record { same = λ op (there, is). ap (options_behind o) is; allows = tt; small = omega arith }
 
 module _ (o : Options) (old new : List Node) where
   -- what was set in the object

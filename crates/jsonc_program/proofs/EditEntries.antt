@@ -242,7 +242,7 @@ module _ {A : Type 0} (old new : CstRootNode A) (tree : IsTree (nodes_of old)) (
     left =
         let s = t.step no_part (above there.said there.inside) d shown in
         let l = s.2 tt in
-        let run : Run d (texts.remove s.0 ∷ []) l.0 = subst (λ op. Run d (op ∷ []) l.0) l.3 l.4 in
+        let run : Run d (texts.remove s.0 ∷ []) l.0 = subst (λ op. Run d (op ∷ []) l.0) l.3.1 l.4 in
         record {
           mid = l.0;
           mid_shown = l.1;

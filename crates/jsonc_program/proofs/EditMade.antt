@@ -19,8 +19,8 @@ use Rattle.jsonc_run.specs.Refusals.{MayFailWith}
 use Rattle.jsonc_run.specs.declared.edit.Edit.{Edit}
 use Rattle.jsonc_run.specs.promise.Asked.{EditsTo, EditsTheText, HasPlace, IsStopped, StopsInText, in_order, none_asked, one_asked}
 use Rattle.jsonc_run.specs.promise.Within.{StaysWithin}
-use Rattle.jsonc_run.specs.texts.Edits as texts
 use Rattle.jsonc_run.specs.texts.Edits.{Operation, Run, options_behind, none_made, one_made}
+use Rattle.jsonc_run.proofs.lemmas.promise.Plains as standing
 use Rattle.jsonc_cst.specs.declared.cst.CstRootNode.{CstRootNode}
 use Rattle.jsonc_cst.specs.Document.{tree_of}
 use Rattle.jsonc_parser.specs.Lists.{RunUnsortedErr, RunUnsortedOk}
@@ -95,5 +95,5 @@ module _ {A : Type 0} (old new : CstRootNode A) (edit : Edit A) where
 
 -- what a route leads to stands there
 pub stands_there : (route : Route) (w : Option Plain) (path : List ℕ) (v : Plain) → LeadsBy route w path v → StandsAt v path w
-stands_there (tokens ts) w path v (x, is, leads) = (x, is, first_changed leads)
-stands_there (names ns) w path v (x, is, leads) = (x, is, leads_changed leads)
+stands_there (tokens ts) w path v (x, is, leads) = standing.stands_there x is (first_changed leads)
+stands_there (names ns) w path v (x, is, leads) = standing.stands_there x is (leads_changed leads)

@@ -38,6 +38,8 @@ use Rattle.jsonc_run.specs.promise.Asked.{EditsTheText, in_order}
 use Rattle.jsonc_run.specs.promise.Within.{StaysWithin}
 use Rattle.jsonc_run.specs.texts.Edits as texts
 use Rattle.jsonc_run.specs.texts.Edits.{Operation, Run, options_behind}
+use Rattle.jsonc_run.proofs.AskedPlaces.{place_asked}
+use Rattle.jsonc_run.proofs.lemmas.promise.Plains.{what_stands}
 use Rattle.jsonc_cst.specs.declared.cst.CstRootNode.{CstRootNode}
 use Rattle.jsonc_cst.specs.declared.cst.node.CstNode.{CstNode}
 use Rattle.jsonc_cst.specs.declared.cst.node.CstObject.{CstObject}
@@ -97,22 +99,22 @@ module _ {A : Type 0} (old new : CstRootNode A) (route : Route) (path : Vec ℕ 
 
   pub replace_made : (value : CstInputValue A) → EditsTheText (tree_of old) (Replace path value ∷ []) (tree_of new) → MakesWhatShown (replace route (plain value)) old new
   replace_made value edits d shown may =
-      let m = made_there (Replace path value) (λ p. texts.replace p (plain value)) (λ w order it is. is) (λ o. refl) edits d shown may in
+      let m = made_there (Replace path value) (λ p. texts.replace p (plain value)) (λ w order it asks. asks.1) (λ o. refl) edits d shown may in
       (m.e, m.shown, record { options = m.options; within = m.within; makes = m.made })
 
   pub rename_made : (name : String A) → EditsTheText (tree_of old) (RenameProperty path name ∷ []) (tree_of new) → MakesWhatShown (rename route (chars_of name)) old new
   rename_made name edits d shown may =
-      let m = made_there (RenameProperty path name) (λ p. texts.rename_property p (chars_of name)) (λ w order it is. is) (λ o. refl) edits d shown tt in
+      let m = made_there (RenameProperty path name) (λ p. texts.rename_property p (chars_of name)) (λ w order it asks. asks.1) (λ o. refl) edits d shown tt in
       (m.e, m.shown, record { options = m.options; within = m.within; makes = m.made })
 
   pub comment_made : (place : sides.Place) (text : String A) → EditsTheText (tree_of old) (InsertComment path place text ∷ []) (tree_of new) → MakesWhatShown (comment route place (chars_of text)) old new
   comment_made place text edits d shown may =
-      let m = made_there (InsertComment path place text) (λ p. texts.insert_comment p place (chars_of text)) (λ w order it is. is) (λ o. refl) edits d shown may in
+      let m = made_there (InsertComment path place text) (λ p. texts.insert_comment p place (chars_of text)) (λ w order it asks. asks.1) (λ o. refl) edits d shown may in
       (m.e, m.shown, record { options = m.options; within = m.within; makes = m.made })
 
   pub remove_made : (in_object : Bool) → EditsTheText (tree_of old) (Remove path ∷ []) (tree_of new) → MakesWhatShown (remove route in_object false true) old new
   remove_made in_object edits d shown may =
-      let m = made_there (Remove path) (λ p. texts.remove p) (λ w order it is. is) (λ o. refl) edits d shown tt in
+      let m = made_there (Remove path) (λ p. texts.remove p) (λ w order it asks. asks.1) (λ o. refl) edits d shown tt in
       (m.e, m.shown, record { options = m.options; within = m.within; makes = inl m.made })
 
   -- why it is refused
@@ -126,7 +128,7 @@ module _ {A : Type 0} (old new : CstRootNode A) (route : Route) (path : Vec ℕ 
   replace_refused value NestingDepthExceeded refused d shown =
       let w = led d shown in
       (path.items, w.1, subst (λ p. LeadsBy route d.value p w.1) (sym w.3) w.2, (refused d shown).0)
-  replace_refused value NoSuchPlace refused d shown = absurd ((refused d shown).1 refl (stands d shown))
+  replace_refused value NoSuchPlace refused d shown = absurd ((refused d shown).1 refl (place_asked d (Replace path value) (stands d shown)))
   replace_refused value why refused d shown = absurd (refused d shown).0
 
   pub rename_refused : (name : String A) (why : EditError) → why ≢ NoSuchPlace → IsRefusedThere old (RenameProperty path name) why → FailsWhatShown {A = A} (rename route (chars_of name)) old (faults.Engine (told.Edit why))
@@ -138,12 +140,12 @@ module _ {A : Type 0} (old new : CstRootNode A) (route : Route) (path : Vec ℕ 
   pub no_property_there : (name : String A) → IsRefusedThere old (RenameProperty path name) NoSuchPlace → FailsWhatShown {A = A} (rename route (chars_of name)) old faults.NotProperty
   no_property_there name refused d shown =
       let w = led d shown in
-      (w.0, w.1, w.2, subst (λ p. ¬ (HasPropertyAt p d.value)) w.3 ((refused d shown).1 refl))
+      (w.0, w.1, w.2, subst (λ p. ¬ (HasPropertyAt p d.value)) w.3 (λ property. (refused d shown).1 refl (place_asked d (RenameProperty path name) property)))
 
   pub comment_refused : (place : sides.Place) (text : String A) (why : EditError) → IsRefusedThere old (InsertComment path place text) why → FailsWhatShown {A = A} (comment route place (chars_of text)) old (faults.Engine (told.Edit why))
   comment_refused place text OutOfMemory refused d shown = tt
   comment_refused place text NestingDepthExceeded refused d shown = absurd (let deep : 512 < 0 = (refused d shown).0 in omega (arith, deep))
-  comment_refused place text NoSuchPlace refused d shown = absurd ((refused d shown).1 refl (stands d shown))
+  comment_refused place text NoSuchPlace refused d shown = absurd ((refused d shown).1 refl (place_asked d (InsertComment path place text) (stands d shown)))
   comment_refused place text InvalidComment refused d shown = (refused d shown).0
   comment_refused After text LineContinues refused d shown = tt
   comment_refused Above text LineContinues refused d shown = absurd (refused d shown).0
@@ -152,7 +154,7 @@ module _ {A : Type 0} (old new : CstRootNode A) (route : Route) (path : Vec ℕ 
   pub remove_refused : (in_object : Bool) (why : EditError) → IsRefusedThere old (Remove path) why → FailsWhatShown {A = A} (remove route in_object false true) old (faults.Engine (told.Edit why))
   remove_refused in_object OutOfMemory refused d shown = tt
   remove_refused in_object NestingDepthExceeded refused d shown = absurd (let deep : 512 < 0 = (refused d shown).0 in omega (arith, deep))
-  remove_refused in_object NoSuchPlace refused d shown = absurd ((refused d shown).1 refl (stands d shown))
+  remove_refused in_object NoSuchPlace refused d shown = absurd ((refused d shown).1 refl (place_asked d (Remove path) (stands d shown)))
   remove_refused in_object why refused d shown = absurd (refused d shown).0
 
 -- what leaves where something has to be leaves where nothing has to be too
@@ -226,7 +228,7 @@ module _ {A : Type 0} (old new : CstRootNode A) (tree : IsTree (nodes_of old)) (
   not_sorted other d shown =
       let w = led d shown in
       let h = nodes_have_values {A = Unit {0}} d (nodes_of old) w.0 (number_of node) tree shown w.3 in
-      let s = stands_there route d.value w.0 w.1 w.2 in
+      let s = what_stands d.value (stands_there route d.value w.0 w.1 w.2) in
       let same : w.1 ≡ h.v = value_once s.2 (subst (λ k. Changed h.v h.v w.0 k k) (some_plain (sym h.is ∙ s.1)) h.there) in
       let has : HasValue d.options (top_at (nodes_of old) (number_of node)) w.1 = subst (HasValue d.options (top_at (nodes_of old) (number_of node))) (sym same) h.has in
       (w.0, w.1, w.2, λ ms e. no_object old tree node held other (object_content d.options (content_at (nodes_of old) (number_of node)) (row_below (nodes_of old) (number_of node)) ms (subst (HasValue d.options (top_at (nodes_of old) (number_of node))) e has)))

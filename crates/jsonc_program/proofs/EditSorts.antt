@@ -61,7 +61,7 @@ module _ {A : Type 0} (old new : CstRootNode A) (x : CstObject) (tree : IsTree (
       let s = sorted.step over d shown in
       let l = s.2 tt in
       let asked = edits.rearrange true s.0 sorted.headers sorted.order in
-      let run : Run d (rearrange true s.0 sorted.order ∷ []) l.0 = subst (λ op. Run d (op ∷ []) l.0) l.3 l.4 in
+      let run : Run d (rearrange true s.0 sorted.order ∷ []) l.0 = subst (λ op. Run d (op ∷ []) l.0) l.3.1 l.4 in
       let is : content_at (nodes_of old) x.number ≡ object = is_object old tree x held in (
         s.0,
         s.1,

@@ -1,5 +1,5 @@
 -- What an edit that asks for a value of a shape has made: an empty one has come first, or taken the place of another, or all has stayed.
-use Rattle.std.proofs.Common.{◌≡◌, ℕ, Bool, true, false, not, List, Option, Some, None, inl, inr, refl, sym, ap, subst, ◌∙◌}
+use Rattle.std.proofs.Common.{◌≡◌, ℕ, Bool, true, false, if◌then◌else◌, not, List, Option, Some, None, inl, inr, refl, sym, ap, subst, ◌∙◌}
 use Rattle.std.proofs.lemmas.Bool.{cases_Bool}
 use Rattle.std.specs.List.{find}
 use Rattle.jsonc_text.specs.Options.{Options}
@@ -29,7 +29,13 @@ use Rattle.jsonc_text.specs.declared.edit.Shape.{Shape}
 use Rattle.jsonc_edit.specs.set.Shapes.{has_shape, is_of, empty_of}
 use Rattle.jsonc_insert.proofs.lemmas.named.Values.{same_shape}
 use Rattle.jsonc_run.specs.Edits.{RootEnsured}
+use Rattle.jsonc_run.specs.texts.Edits as texts
+use Rattle.jsonc_run.specs.texts.Edits.{Operation}
 use Rattle.jsonc_run.proofs.Roots.{root_is}
+
+-- a value stays, or an empty one takes its place
+abbrev pub kept_or_emptied : Shape → List ℕ → Bool → Operation
+kept_or_emptied shape path stays = if stays then texts.nothing else texts.replace path (empty_of shape)
 
 module _ (o : Options) (ns : List Node) where
   -- what a row holds is the value of its first element

@@ -18,6 +18,7 @@ pub mod Refused
 pub mod ValueNodes
 pub mod CommentCount
 pub mod NamedPlaces
+pub mod AskedPlaces
 pub mod Numbered
 pub mod SoundChain
 pub mod Parents

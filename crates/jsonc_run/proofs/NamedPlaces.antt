@@ -45,6 +45,7 @@ use Rattle.jsonc_run.specs.Places.{IsArrayAt, IsBooleanAt, IsContainerAt, IsEntr
 use Rattle.jsonc_run.specs.Refusals.{HasItsPlace, FailsWith, RefusedAt}
 use Rattle.jsonc_run.proofs.Booleans.{boolean_value}
 use Rattle.jsonc_run.proofs.CommentCount.{comments_counted}
+use Rattle.jsonc_run.proofs.lemmas.promise.Plains.{stands_there}
 use Rattle.jsonc_run.proofs.ValueNodes.{is_array, is_object, node_found, property_found}
 
 -- the value of an array's node is an array, and that of an object's an object
@@ -75,7 +76,7 @@ array_or_object Content.object h = inr refl
 array_or_object content h = absurd (false≢true h)
 
 -- each property may be replaced by itself
-nth_member : (ms : Members) (i : ℕ) → i < member_count ms → (v : Plain) × MemberChanged v v i ms ms
+pub nth_member : (ms : Members) (i : ℕ) → i < member_count ms → (v : Plain) × MemberChanged v v i ms ms
 nth_member no_members i h = absurd (omega arith)
 nth_member (member name v ms) zero h = (v, changes.this_member)
 nth_member (member name v ms) (suc i) h = let k = nth_member ms i (omega arith) in (k.0, changes.later_member k.1)
@@ -108,7 +109,7 @@ module _ (o : Options) (ns : List Node) (tree : IsTree ns) (sound : SoundTree o 
   valued path n at =
       let some = some_value_of o (gives_way_to_itself ns tree path n at) w value in
       let held = value_at_path o ns tree path n at some.0 some.1 in
-      record { its = held.value; has = held.has; stands = (some.0, document_once o (ordered_tree ns 0) w (Some some.0) value some.1, held.at) }
+      record { its = held.value; has = held.has; stands = stands_there some.0 (document_once o (ordered_tree ns 0) w (Some some.0) value some.1) held.at }
 
   value_named : (path : List ℕ) (n : ℕ) → IsAt ns path n → HasValueAt path w
   value_named path n at = let v = valued path n at in (v.its, v.stands)

@@ -4,8 +4,9 @@ use Rattle.jsonc_text.specs.Options.{Options}
 use Rattle.jsonc_text.specs.Plain.{Plain}
 use Rattle.jsonc_tree.specs.Content.{Content, object, property}
 use Rattle.jsonc_tree.specs.OrderedTree.{OrderedTree, Top, leaves, ordered_tree}
-use Rattle.jsonc_tree.specs.Tree.{Node, content_at, children_at, IsTree}
-use Rattle.jsonc_tree.proofs.Order.{parent_there}
+use Rattle.jsonc_tree.specs.Tree.{Node, content_at, children_at, parent_at, IsTree, IsOver}
+use Rattle.jsonc_tree.proofs.Order.{over_step, parent_there}
+use Rattle.jsonc_run.proofs.lemmas.promise.BlanksTold.{layout_told}
 use Rattle.jsonc_layout.specs.nodes.Kinds.{is_element, is_element_at}
 use Rattle.jsonc_layout.specs.from_input.Layout.{Layout}
 use Rattle.jsonc_layout.specs.from_input.Texts.{IsCharacters}
@@ -22,7 +23,7 @@ use Rattle.jsonc_edit.specs.Reading.{layout_for}
 use Rattle.jsonc_edit.specs.Writing.{IsWritable}
 use Rattle.jsonc_edit.proofs.ReplacedChildren.{in_place}
 use Rattle.jsonc_edit.proofs.NodesKept.{at_kept, filter_same, top_stays, tree_stays}
-use Rattle.jsonc_edit.proofs.Uniqueness.{element_parent}
+use Rattle.jsonc_edit.proofs.Uniqueness.{element_parent, over_at}
 use Rattle.jsonc_edit.specs.SeamEntries.{PropertyHolds, PropertyReplacedWithSeam}
 use Rattle.jsonc_edit.specs.Seams.{PrintNothing, space_if, StandsBetween}
 use Rattle.jsonc_edit.proofs.LeavesAroundNodes.{space_behind}
@@ -142,3 +143,4 @@ property_gives_way o old new _ n m name v tree s (a_property front c i at inside
     (subst (λ (t : Top). DiffersIn (leaves_of t) (leaves_of (property_top layout name v)) (leaves w.spaced) (leaves (ordered_tree new 0))) was
     (subst (λ (t : Top). DiffersIn (leaves_of (top_at old n)) (leaves_of t) (leaves w.spaced) (leaves (ordered_tree new 0))) now w.around))
     (property_seam old new front c i n m name v tree at inside.of_object inside.element inside.is r) (bare_there old new front c i n m name v tree at inside.of_object inside.element inside.is r)
+    (layout_told o old tree s r.0 n (over_step old tree 0 n r.0 (IsOver.above (element_parent old tree c i n inside.element) (over_at old tree front c at)) (λ e. let wrong : None ≡ Some r.0 = sym tree.root_alone ∙ subst (λ k. parent_at old k ≡ Some r.0) e r.1 in cc) r.1))

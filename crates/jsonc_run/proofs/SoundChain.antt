@@ -63,12 +63,13 @@ step_made o old new w e tree after was characters numbers made =
     let m = edit_made o old new tree after was.sound e characters numbers made in
     let now = says (options_behind o m.op) (ordered_tree new 0) m.is.sound in
     let first : m.before ≡ w = document_unique o (printed_text (ordered_tree old 0)) m.before w m.is.old_text was.text in
+    let named : IsNamed w (comment_count (ordered_tree old 0)) e = (places_named o old e tree was.sound w was.value).0 (at_found old (place_of e) (λ n. MakesAt old n e new) made) in
     let second : m.is.after ≡ now.0 = document_unique (options_behind o m.op) (printed_text (ordered_tree new 0)) m.is.after now.0 m.is.new_text now.1.text in
     record {
       op = m.op;
       value = now.0;
-      named = (places_named o old e tree was.sound w was.value).0 (at_found old (place_of e) (λ n. MakesAt old n e new) made);
-      asks = subst (λ x. Asks x e m.op) first m.asks;
+      named = named;
+      asks = subst (λ (x : Option Plain). IsNamed x (comment_count (ordered_tree old 0)) e → Asks x e m.op) first (m.asks (comment_count (ordered_tree old 0))) named;
       step = record {
         old = was;
         new = now.1;

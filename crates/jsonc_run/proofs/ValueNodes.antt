@@ -28,6 +28,7 @@ use Rattle.jsonc_edit.proofs.ChangesUpward.{Shows-row_below, document_is}
 use Rattle.jsonc_insert.specs.named.Places.{IsPropertyOf}
 use Rattle.jsonc_insert.proofs.lemmas.named.PropertyValues.{property_row}
 use Rattle.jsonc_run.specs.Named.{StandsAt}
+use Rattle.jsonc_run.proofs.lemmas.promise.Plains.{what_stands}
 
 module _ (ns : List Node) where
   -- the first of a row, what is below it, and those behind it
@@ -221,5 +222,6 @@ module _ (o : Options) (ns : List Node) (tree : IsTree ns) (sound : SoundTree o 
       record { node = found.node; row = found.row; at = (found.node, found.at, paths.itself); shown = found.shown; has = found.is }
 
   pub node_found : (w : Option Plain) → DocumentValueOf o (ordered_tree ns 0) w → (path : List ℕ) (v : Plain) → StandsAt v path w → HasHere o ns path v
-  node_found w value path v (x, is, stands) =
-      found_from [] path (root_found x (subst (DocumentValueOf o (ordered_tree ns 0)) is value)) stands
+  node_found w value path v there =
+      let s = what_stands w there in
+      found_from [] path (root_found s.0 (subst (DocumentValueOf o (ordered_tree ns 0)) s.1 value)) s.2

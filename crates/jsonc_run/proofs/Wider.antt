@@ -9,7 +9,7 @@ use Rattle.jsonc_text.proofs.SameOptions.{lexeme_same}
 use Rattle.jsonc_edit.proofs.lemmas.commas.WiderShapes.{as_allowed, with_trailing}
 use Rattle.jsonc_edit.specs.Writing.{IsOfNumbers, AreOfNumbers, AreNamedOfNumbers}
 use Rattle.jsonc_text.specs.declared.edit.TrailingCommaMode.TheVariants.{Never, IfMultiline}
-use Rattle.jsonc_run.specs.Edits.{PlainEdit, AllowsWritten, Allows, Writes, a_comment, a_property, a_value, written_by}
+use Rattle.jsonc_run.specs.Edits.{PlainEdit, Allows, replace, set_root, replace_property, set_value, insert_element, append_element, insert_property, append_property, insert_comment}
 use Rattle.jsonc_run.specs.texts.Edits.{Operation, set_commas, options_behind}
 
 number_wider : {o p : Options} → AgreeOnLexemes o p → (s : List ℕ) → NumberLit o s → NumberLit p s
@@ -33,11 +33,17 @@ module _ {o p : Options} (m : AllowsMore o p) where
     members_wider no_members h = h
     members_wider (member name v ms) (h, k) = (numbers_wider v h, members_wider ms k)
 
-  fits_wider : (w : Writes) → AllowsWritten o w → AllowsWritten p w
-  fits_wider (a_value v) fit = numbers_wider v fit
-  fits_wider (a_property name v) fit = numbers_wider v fit
-  fits_wider (a_comment text) fit = m.comments fit
-  fits_wider w fit = tt
+  fits_wider : (e : PlainEdit) → Allows o e → Allows p e
+  fits_wider (replace path v) fit = numbers_wider v fit
+  fits_wider (set_root v) fit = numbers_wider v fit
+  fits_wider (replace_property path name v) fit = numbers_wider v fit
+  fits_wider (set_value path v) fit = numbers_wider v fit
+  fits_wider (insert_element path i v) fit = numbers_wider v fit
+  fits_wider (append_element path v) fit = numbers_wider v fit
+  fits_wider (insert_property path i name v) fit = numbers_wider v fit
+  fits_wider (append_property path name v) fit = numbers_wider v fit
+  fits_wider (insert_comment path place text) fit = m.comments fit
+  fits_wider e fit = tt
 
 by_wider : (o : Options) (op : Operation) → AllowsMore o (options_behind o op)
 by_wider o (set_commas whole path Never) = as_allowed o
@@ -46,4 +52,4 @@ by_wider o op = as_allowed o
 
 -- what the options before an operation allow those behind it do
 pub fits_behind : (o : Options) (op : Operation) (e : PlainEdit) → Allows o e → Allows (options_behind o op) e
-fits_behind o op e fit = fits_wider (by_wider o op) (written_by e) fit
+fits_behind o op e fit = fits_wider (by_wider o op) e fit

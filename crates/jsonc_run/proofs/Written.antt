@@ -1,11 +1,15 @@
 -- What each edit that was made asks for in a sound document, and what the operation makes of that.
 use Rattle.std.proofs.Common.{◌≡◌, ℕ, length, Bool, true, false, List, [], ◌∷◌, ◌++◌, Option, Some, None, IsTrue, IsUtf8, inl, inr, sym, refl, ap, subst, ◌∙◌, chars}
+use Rattle.jsonc_layout.specs.nodes.Siblings.{elements_at}
 use Rattle.jsonc_text.specs.Options.{Options}
 use Rattle.jsonc_text.specs.Plain.{Plain, Items, Members}
 use Rattle.jsonc_text.specs.Grammar.{IsDocument}
 use Rattle.jsonc_text.proofs.UniqueValues.{document_unique}
 use Rattle.jsonc_tree.specs.OrderedTree.{OrderedTree, Top, none, leaves, ordered_tree}
-use Rattle.jsonc_tree.specs.Tree.{Node, content_at, children_at, IsTree}
+use Rattle.jsonc_tree.specs.Tree.{Node, content_at, children_at, parent_at, IsTree, IsOver}
+use Rattle.jsonc_tree.proofs.Order.{over_step}
+use Rattle.jsonc_edit.proofs.Uniqueness.{over_at}
+use Rattle.jsonc_run.proofs.lemmas.promise.BlanksTold.{layout_told}
 use Rattle.jsonc_sound.specs.Shape.{printed_text}
 use Rattle.jsonc_sound.specs.SoundTrees.{SoundTree}
 use Rattle.jsonc_sound.specs.Changes as changes
@@ -29,6 +33,7 @@ use Rattle.jsonc_text.specs.declared.edit.Place.{Place}
 use Rattle.jsonc_text.specs.declared.edit.Over.{Over}
 use Rattle.jsonc_text.specs.declared.edit.Over.TheVariants as over
 use Rattle.jsonc_text.specs.declared.edit.Shape.{Shape}
+use Rattle.jsonc_text.specs.declared.edit.Shape.TheVariants.{Object, Array}
 use Rattle.jsonc_edit.specs.Changes.{row_below, top_at}
 use Rattle.jsonc_edit.specs.commenting.Inserting.{Comes, MayCome}
 use Rattle.jsonc_edit.specs.Comments.{CommentTaken, LosesComment}
@@ -65,22 +70,27 @@ use Rattle.jsonc_insert.specs.named.Places.{IsPropertyAt, a_property}
 use Rattle.jsonc_insert.proofs.lemmas.named.PathValues.{gives_way_to_itself, value_at_path, value_of_text, value_once}
 use Rattle.jsonc_insert.proofs.lemmas.named.PropertyValues.{value_held}
 use Rattle.jsonc_insert.proofs.lemmas.named.Values as property_values
-use Rattle.jsonc_insert.proofs.lemmas.named.Values.{empty_writable, marks_given, same_shape, value_gives_way, value_marked}
+use Rattle.jsonc_insert.proofs.lemmas.named.Values.{empty_writable, layout_given, marks_given, same_shape, value_gives_way, value_marked}
 use Rattle.jsonc_insert.proofs.lemmas.named.Writing.{finds_member, first_named}
 use Rattle.jsonc_insert.proofs.lemmas.elements.Marked.{marks_come_in}
-use Rattle.jsonc_run.specs.Named.{entry, ensures, kept_or_emptied, may_stay, Asks, StandsAt}
+use Rattle.jsonc_run.specs.Named.{entry, ensures, may_stay, Asks, IsNamed, StandsAt}
 use Rattle.jsonc_run.specs.Edits.{PlainEdit, replace, remove, remove_comment, set_root, clear_root, replace_property, ensure_root, set_value, ensure_value, set_boolean, ensure_multiline, insert_element, append_element, insert_property, append_property, ensure_property, set_commas, set_some_commas, rearrange, rename_property, insert_comment, RootSet, EditStep, IsOfCharacters, Allows}
-use Rattle.jsonc_run.specs.Written.{IsMarked, MadeIn, IsChanged, by_nothing, by_value, by_entry, by_all, by_comment, by_first, by_clearing, by_property, by_boolean, by_lines, by_inserting, by_inserting_member, by_commas, by_sorting, by_name, by_inserting_comment, EntryRemoved, entry_left, value_left, FirstComes, ReplacesProperty, property_given}
+use Rattle.jsonc_run.specs.Written.{PrintsNoBlank, IsMarked, IsTold, MadeIn, IsChanged, by_nothing, by_value, by_entry, by_all, by_comment, by_first, by_clearing, by_property, by_boolean, by_lines, by_inserting, by_inserting_member, by_commas, by_sorting, by_name, by_inserting_comment, EntryRemoved, entry_left, value_left, FirstComes, ReplacesProperty, property_given}
 use Rattle.jsonc_run.specs.Places.{IsEntryAt, the_value, an_entry, IsEntryOf, in_array, in_object, IsBooleanAt, IsObjectAt}
 use Rattle.jsonc_run.specs.texts.Edits as texts
 use Rattle.jsonc_run.specs.texts.Edits.{Operation, options_behind}
 use Rattle.jsonc_run.specs.texts.Paths.{an_array, an_object}
 use Rattle.jsonc_run.proofs.Booleans.{boolean_given, boolean_changed}
-use Rattle.jsonc_run.proofs.EnsuredValues.{held, Ensured, created, stayed, other_stayed, replaced, ensured}
+use Rattle.jsonc_run.proofs.EnsuredValues.{kept_or_emptied, held, Ensured, created, stayed, other_stayed, replaced, ensured}
 use Rattle.jsonc_run.proofs.Inserted as elements
 use Rattle.jsonc_run.proofs.Calls.{property_over}
 use Rattle.jsonc_run.proofs.CommentMade.{comment_inserted}
-use Rattle.jsonc_run.proofs.lemmas.promise.EntriesHeld.{entry_is}
+use Rattle.jsonc_text.specs.declared.edit.Place.TheVariants.{Above, After}
+use Rattle.jsonc_run.proofs.lemmas.promise.BlanksEntries.{element_brings_none, property_brings_none}
+use Rattle.jsonc_run.proofs.lemmas.promise.BlanksRows.{comment_brings_none, lines_bring_none, sort_brings_none}
+use Rattle.jsonc_run.proofs.lemmas.promise.BlanksFirst.{first_brings_none}
+use Rattle.jsonc_run.proofs.lemmas.promise.EntriesHeld.{entry_between, entry_is}
+use Rattle.jsonc_run.proofs.lemmas.promise.Plains.{changed}
 use Rattle.jsonc_run.proofs.NameMade.{renames_property}
 use Rattle.jsonc_run.proofs.Properties as properties
 use Rattle.jsonc_run.proofs.PropertyMade.{property_gives_way}
@@ -120,11 +130,11 @@ pub record IsMade (o : Options) (before : Option Plain) (op : Operation) (t u : 
   pub marked : IsMarked (marks t) op (marks u)
   pub made : MadeIn o t op u
 
--- it is what the edit asks for
+-- it is what the edit asks for, where it has its place
 pub record EditMade (o : Options) (e : PlainEdit) (t u : OrderedTree) : Type 0 where
   pub before : Option Plain
   pub op : Operation
-  pub asks : Asks before e op
+  pub asks : (count : ℕ) → IsNamed before count e → Asks before e op
   pub is : IsMade o before op t u
 
 -- a first value's marks come in
@@ -136,7 +146,7 @@ first_marked o t u v may (layout, row, next, was, is, comes) =
 
 -- a property that is replaced leaves its marks to those of the new one
 property_marked : (o : Options) (t u : OrderedTree) (path name : List ℕ) (v : Plain) → IsCharacters name → IsWritable o v → ReplacesProperty name v t u path → IsMarked (marks t) (texts.replace_property path (entry name v)) (marks u)
-property_marked o t u _ name v characters may (property_given path i layout spaced front was back puts changed around seam bare) =
+property_marked o t u _ name v characters may (property_given path i layout spaced front was back puts changed around seam bare told) =
     (marks_under (property_of was), subst (λ l. MarksDifferIn (marks_under (property_of was)) l (marks t) (marks u)) (laid_as_written_named layout name v characters may.texts) (marks_given (property_of was) (property_of (laid_property layout name v).below) t spaced u puts around))
 
 -- an entry, or the document's value, has left
@@ -146,7 +156,7 @@ entry_made o t u _ s (entry_left path i top taken) =
     record {
       before = Some w.before;
       op = texts.remove (path ++ i ∷ []);
-      asks = refl;
+      asks = λ count at. (at, refl);
       is = record { after = Some w.after; old_text = w.old_text; new_text = w.new_text; changed = by_entry path i w.loses; sound = w.sound; marked = (top, w.marks); made = entry_left path i top taken };
     }
 entry_made o t u _ s (value_left top taken) =
@@ -154,14 +164,26 @@ entry_made o t u _ s (value_left top taken) =
     record {
       before = Some w.before;
       op = texts.remove [];
-      asks = refl;
+      asks = λ count at. (at, refl);
       is = record { after = None; old_text = w.old_text; new_text = w.new_text; changed = by_all; sound = w.sound; marked = (top, w.marks); made = value_left top taken };
     }
 
--- what is of the shape may stay
+-- a value that is to stay does, and one that is not where it is of the shape
+keeps : (shape : Shape) (v : Plain) → may_stay shape over.Keep v ≡ true
+keeps Object (Plain.object ms) = refl
+keeps Object v = refl
+keeps Array (Plain.array vs) = refl
+keeps Array v = refl
+
+stays_by_shape : (shape : Shape) (v : Plain) → may_stay shape over.Replace v ≡ has_shape shape v
+stays_by_shape Object (Plain.object ms) = refl
+stays_by_shape Object v = refl
+stays_by_shape Array (Plain.array vs) = refl
+stays_by_shape Array v = refl
+
 stays_if : (shape : Shape) (how : Over) (v : Plain) → has_shape shape v ≡ true → may_stay shape how v ≡ true
-stays_if shape over.Keep v e = refl
-stays_if shape over.Replace v e = e
+stays_if shape over.Keep v e = keeps shape v
+stays_if shape over.Replace v e = stays_by_shape shape v ∙ e
 
 module _ (o : Options) (old new : List Node) (tree : IsTree old) (after : IsTree new) (s : SoundTree o (ordered_tree old 0)) where
   abbrev t : OrderedTree
@@ -188,7 +210,7 @@ module _ (o : Options) (old new : List Node) (tree : IsTree old) (after : IsTree
   value_there : (path : List ℕ) (n : ℕ) → IsAt old path n → (w : Plain) → IsDocument o (printed_text t) (Some w) → ValueThere path n w
   value_there path n at w text =
       let there = value_at_path o old tree path n at w (value_of_text o t s w text) in
-      record { v = there.value; stands = (w, refl, there.at); of_shape = λ shape. same_shape shape there.has }
+      record { v = there.value; stands = changed there.at; of_shape = λ shape. same_shape shape there.has }
 
   -- nothing is done
   none_made : (w : Option Plain) → IsDocument o (printed_text t) w → new ≡ old → IsMade o w texts.nothing t u
@@ -196,53 +218,57 @@ module _ (o : Options) (old new : List Node) (tree : IsTree old) (after : IsTree
       subst (λ (ns : List Node). IsMade o w texts.nothing t (ordered_tree ns 0)) (sym same)
       (record { after = w; old_text = text; new_text = text; changed = by_nothing; sound = s; marked = refl; made = refl })
 
+  -- what an entry of the document stands in is in it
+  holder_over : (path : List ℕ) (n c : ℕ) → IsAt old path n → parent_at old n ≡ Some c → IsOver old 0 c
+  holder_over path n c at said = over_step old tree 0 n c (over_at old tree path n at) (λ e. let wrong : None ≡ Some c = sym tree.root_alone ∙ subst (λ m. parent_at old m ≡ Some c) e said in cc) said
+
   -- a value is replaced
   replaced_made : (path : List ℕ) (n m : ℕ) (v : Plain) → IsAt old path n → IsWritable o v → IsReplaced old new n v m → (w : Plain) × IsMade o (Some w) (texts.replace path v) t u
   replaced_made path n m v at may r =
       let w = replaced_written o old new n m v tree r path s at may in
       let g = value_gives_way old new path n m v tree at r in
-      (w.before, record { after = Some w.after; old_text = w.old_text; new_text = w.new_text; changed = by_value w.changed; sound = w.sound; marked = value_marked o t u path v may g; made = g })
+      (w.before, record { after = Some w.after; old_text = w.old_text; new_text = w.new_text; changed = by_value w.changed; sound = w.sound; marked = value_marked o t u path v may g; made = (g, subst (IsTold t) (sym (layout_given old new path n m v tree at r)) (layout_told o old tree s r.0 n (holder_over path n r.0 at r.1))) })
 
   -- a value comes where there was none
   first_made : (m : ℕ) (v : Plain) → value_at old 0 ≡ None → IsWritable o v → FirstValue old new v m → IsMade o None (texts.come_first v) t u
   first_made m v e may f =
       let w = gives_first_value o old new v m tree s e may f in
       let comes : FirstComes v t u = (layout_for old 0 0, row_below old 0, row_below new 0, root_is old tree, root_is new f.tree, comes_among_rows o old new v m tree s e f) in
-      record { after = Some v; old_text = w.before.text; new_text = w.after.text; changed = by_first; sound = w.after.sound; marked = first_marked o t u v may comes; made = comes }
+      record { after = Some v; old_text = w.before.text; new_text = w.after.text; changed = by_first; sound = w.after.sound; marked = first_marked o t u v may comes; made = (comes, first_brings_none o old new v m tree s w.after.sound may.texts e f) }
 
   -- an element or a property comes in
-  element_made : (path : List ℕ) (i : ℕ) (v : Plain) (came : elements.CameIn o path i v t u) → IsMade o (Some came.is.before) (texts.insert an_array path i (entry [] v)) t u
-  element_made path i v came =
+  element_made : (path : List ℕ) (i : ℕ) (v : Plain) (came : elements.CameIn o path i v t u) → PrintsNoBlank (texts.insert an_array path i (entry [] v)) t u → IsMade o (Some came.is.before) (texts.insert an_array path i (entry [] v)) t u
+  element_made path i v came quiet =
       let w = came.is in
-      record { after = Some w.after; old_text = w.old_text; new_text = w.new_text; changed = by_inserting w.gains; sound = w.sound; marked = marks_come_in (written v) _ _ t u w.marks; made = came.come }
+      record { after = Some w.after; old_text = w.old_text; new_text = w.new_text; changed = by_inserting w.gains; sound = w.sound; marked = marks_come_in (written v) _ _ t u w.marks; made = (came.come, quiet) }
 
-  property_made : (path : List ℕ) (i : ℕ) (name : List ℕ) (v : Plain) (came : properties.CameIn o path i name v t u) → IsMade o (Some came.is.before) (texts.insert an_object path i (entry name v)) t u
-  property_made path i name v came =
+  property_made : (path : List ℕ) (i : ℕ) (name : List ℕ) (v : Plain) (came : properties.CameIn o path i name v t u) → PrintsNoBlank (texts.insert an_object path i (entry name v)) t u → IsMade o (Some came.is.before) (texts.insert an_object path i (entry name v)) t u
+  property_made path i name v came quiet =
       let w = came.is in
-      record { after = Some w.after; old_text = w.old_text; new_text = w.new_text; changed = by_inserting_member w.gains; sound = w.sound; marked = marks_come_in (property_written name v) _ _ t u w.marks; made = came.come }
+      record { after = Some w.after; old_text = w.old_text; new_text = w.new_text; changed = by_inserting_member w.gains; sound = w.sound; marked = marks_come_in (property_written name v) _ _ t u w.marks; made = (came.come, quiet) }
 
   -- the document's value is set, or has to be of a shape
   root_set : (v : Plain) → IsWritable o v → (found : Option ℕ) → value_at old 0 ≡ found → RootSet old new v found → EditMade o (set_root v) t u
-  root_set v may None e (m, f) = record { before = None; op = texts.come_first v; asks = refl; is = first_made m v e may f }
+  root_set v may None e (m, f) = record { before = None; op = texts.come_first v; asks = λ count at. refl; is = first_made m v e may f }
   root_set v may (Some n) e (m, r) =
       let g = replaced_made [] n m v (value_stands old tree n e) may r in
-      record { before = Some g.0; op = texts.replace [] v; asks = refl; is = g.1 }
+      record { before = Some g.0; op = texts.replace [] v; asks = λ count at. refl; is = g.1 }
 
   root_ensured : (shape : Shape) (how : Over) → Ensured old new shape how → EditMade o (ensure_root shape how) t u
-  root_ensured shape how (created m e f) = record { before = None; op = texts.come_first (empty_of shape); asks = refl; is = first_made m (empty_of shape) e (empty_writable o shape) f }
+  root_ensured shape how (created m e f) = record { before = None; op = texts.come_first (empty_of shape); asks = λ count at. refl; is = first_made m (empty_of shape) e (empty_writable o shape) f }
   root_ensured shape how (stayed n e is same) =
       let h = held o old tree s n e in
-      record { before = Some h.value; op = texts.nothing; asks = ap (kept_or_emptied shape []) (sym (stays_if shape how h.value (sym (h.error shape) ∙ is))); is = none_made (Some h.value) h.text same }
+      record { before = Some h.value; op = texts.nothing; asks = λ count at. ap (kept_or_emptied shape []) (sym (stays_if shape how h.value (sym (h.error shape) ∙ is))); is = none_made (Some h.value) h.text same }
   root_ensured shape _ (other_stayed n e is same) =
       let h = held o old tree s n e in
-      record { before = Some h.value; op = texts.nothing; asks = refl; is = none_made (Some h.value) h.text same }
+      record { before = Some h.value; op = texts.nothing; asks = λ count at. ap (kept_or_emptied shape []) (sym (keeps shape h.value)); is = none_made (Some h.value) h.text same }
   root_ensured shape _ (replaced n m e is r) =
       let h = held o old tree s n e in
       let g = replaced_made [] n m (empty_of shape) (value_stands old tree n e) (empty_writable o shape) r in
       let both : Some h.value ≡ Some g.0 = document_unique o (printed_text t) (Some h.value) (Some g.0) h.text g.1.old_text in
       let same : h.value ≡ g.0 = cc in
       let other : has_shape shape g.0 ≡ false = ap (has_shape shape) (sym same) ∙ sym (h.error shape) ∙ is in
-      record { before = Some g.0; op = texts.replace [] (empty_of shape); asks = ap (kept_or_emptied shape []) (sym other); is = g.1 }
+      record { before = Some g.0; op = texts.replace [] (empty_of shape); asks = λ count at. ap (kept_or_emptied shape []) (sym (stays_by_shape shape g.0 ∙ other)); is = g.1 }
 
   -- the value of a property has to be of a shape
   record HeldMade (path : List ℕ) (shape : Shape) : Type 0 where
@@ -259,11 +285,11 @@ module _ (o : Options) (old new : List Node) (tree : IsTree old) (after : IsTree
       let value = some_value_of o (gives_way_to_itself old tree path n at) known.0 known.2 in
       let text = prints_value o t (Some value.0) s value.1 in
       let there = value_there path n at value.0 text in
-      record { w = value.0; v = there.v; op = texts.nothing; stands = there.stands; asks = ap (kept_or_emptied shape path) (sym (sym (there.of_shape shape) ∙ is)); is = none_made (Some value.0) text same }
+      record { w = value.0; v = there.v; op = texts.nothing; stands = there.stands; asks = ap (kept_or_emptied shape path) (sym (stays_by_shape shape there.v ∙ (sym (there.of_shape shape) ∙ is))); is = none_made (Some value.0) text same }
   held_made path shape (property_values.has_given_way n m at is r) =
       let g = replaced_made path n m (empty_of shape) at (empty_writable o shape) r in
       let there = value_there path n at g.0 g.1.old_text in
-      record { w = g.0; v = there.v; op = texts.replace path (empty_of shape); stands = there.stands; asks = ap (kept_or_emptied shape path) (sym (sym (there.of_shape shape) ∙ is)); is = g.1 }
+      record { w = g.0; v = there.v; op = texts.replace path (empty_of shape); stands = there.stands; asks = ap (kept_or_emptied shape path) (sym (stays_by_shape shape there.v ∙ (sym (there.of_shape shape) ∙ is))); is = g.1 }
 
   -- the first property of a name, or one that comes
   module _ (path : List ℕ) (n : ℕ) (name : List ℕ) (shape : Shape) (at : IsObjectAt old path n) where
@@ -282,8 +308,8 @@ module _ (o : Options) (old new : List Node) (tree : IsTree old) (after : IsTree
         record {
           before = Some w.before;
           op = texts.insert an_object path last.i (entry name (empty_of shape));
-          asks = (w.gains.old, (w.before, refl, left_so w.gains.changed), inr (subst (LacksMember name) members f.among, last.i, last.far, refl));
-          is = property_made path last.i name (empty_of shape) last.came;
+          asks = λ count at. (w.gains.old, changed (left_so w.gains.changed), inr (subst (LacksMember name) members f.among, last.i, last.far, refl));
+          is = property_made path last.i name (empty_of shape) last.came (property_brings_none o old new tree s w.sound path n at.0 at.1 (length (elements_at old n)) last.i comes.property (entry name (empty_of shape)) characters (empty_writable o shape).texts comes.put);
         }
     named_made over.Keep characters (Some r) answer first (told, same) =
         let f = finds_member o old path n name (Some r) tree s at.0 at.1 first in
@@ -293,7 +319,7 @@ module _ (o : Options) (old new : List Node) (tree : IsTree old) (after : IsTree
         record {
           before = Some f.value;
           op = texts.nothing;
-          asks = (f.members, (f.value, refl, f.at), inl (i, there.v, f.among.2, there.stands, refl));
+          asks = λ count at. (f.members, changed f.at, inl (i, there.v, f.among.2, there.stands, ap (kept_or_emptied shape (path ++ i ∷ [])) (sym (keeps shape there.v))));
           is = none_made (Some f.value) f.text same;
         }
     named_made over.Replace characters (Some r) answer first (m, told, (named, set)) =
@@ -305,7 +331,7 @@ module _ (o : Options) (old new : List Node) (tree : IsTree old) (after : IsTree
         record {
           before = Some h.w;
           op = h.op;
-          asks = (f.members, (h.w, refl, subst (λ x. Changed (Plain.object f.members) (Plain.object f.members) path x x) same f.at), inl (i, h.v, f.among.2, h.stands, h.asks));
+          asks = λ count at. (f.members, changed (subst (λ x. Changed (Plain.object f.members) (Plain.object f.members) path x x) same f.at), inl (i, h.v, f.among.2, h.stands, h.asks));
           is = h.is;
         }
 
@@ -321,7 +347,7 @@ module _ (o : Options) (old new : List Node) (tree : IsTree old) (after : IsTree
       record {
         before = was.0;
         op = texts.remove_comment number;
-        asks = refl;
+        asks = λ count at. refl;
         is = record {
           after = was.0;
           old_text = was.1;
@@ -345,7 +371,7 @@ module _ (o : Options) (old new : List Node) (tree : IsTree old) (after : IsTree
       record {
         before = Some w.before;
         op = texts.replace_property (front ++ i ∷ []) (entry name v);
-        asks = refl;
+        asks = λ count at. (at, refl);
         is = record {
           after = Some w.after;
           old_text = w.old_text;
@@ -365,7 +391,7 @@ module _ (o : Options) (old new : List Node) (tree : IsTree old) (after : IsTree
       record {
         before = Some w.before;
         op = texts.rename_property (front ++ i ∷ []) name;
-        asks = refl;
+        asks = λ count at. (at, refl);
         is = record {
           after = Some w.after;
           old_text = w.old_text;
@@ -377,6 +403,13 @@ module _ (o : Options) (old new : List Node) (tree : IsTree old) (after : IsTree
         };
       }
 
+  remark_there : (path : List ℕ) (n : ℕ) (place : Place) (text : List ℕ) → IsEntryAt old path n → IsUtf8 text → MayCome place old n text → Comes place old new n text → SoundTree o u → MadeIn o t (texts.insert_comment path place (chars text)) u
+  remark_there path n Above text at utf8 may comes sound =
+      let e = entry_is old tree path n at in
+      let m = entry_between old tree path n at in
+      (comment_inserted old new tree path n at text utf8 Above may comes, comment_brings_none o old new tree s sound path n e.container text e.parent (over_step old tree 0 n e.container e.below (λ same. let wrong : None ≡ Some e.container = sym tree.root_alone ∙ subst (λ k. parent_at old k ≡ Some e.container) same e.parent in cc) e.parent) e.below m.first m.last m.stands comes)
+  remark_there path n After text at utf8 may comes sound = comment_inserted old new tree path n at text utf8 After may comes
+
   -- a comment is inserted beside an entry
   remark_made : (path : List ℕ) (n : ℕ) (place : Place) (text : List ℕ) → IsEntryAt old path n → IsUtf8 text → IsTrue o.comments → MayCome place old n text → Comes place old new n text → EditMade o (insert_comment path place text) t u
   remark_made path n place text at utf8 allowed may comes =
@@ -384,7 +417,7 @@ module _ (o : Options) (old new : List Node) (tree : IsTree old) (after : IsTree
       record {
         before = w.value;
         op = texts.insert_comment path place (chars text);
-        asks = refl;
+        asks = λ count at. (at, refl);
         is = record {
           after = w.value;
           old_text = w.old_text;
@@ -392,7 +425,7 @@ module _ (o : Options) (old new : List Node) (tree : IsTree old) (after : IsTree
           changed = by_inserting_comment;
           sound = w.sound;
           marked = w.marked;
-          made = comment_inserted old new tree path n at text utf8 place may comes;
+          made = remark_there path n place text at utf8 may comes w.sound;
         };
       }
 
@@ -405,7 +438,7 @@ module _ (o : Options) (old new : List Node) (tree : IsTree old) (after : IsTree
       record {
         before = Some w.before;
         op = texts.set_boolean path b;
-        asks = refl;
+        asks = λ count at. (at, refl);
         is = record {
           after = Some w.after;
           old_text = w.old_text;
@@ -426,7 +459,7 @@ module _ (o : Options) (old new : List Node) (tree : IsTree old) (after : IsTree
       record {
         before = was.0;
         op = texts.clear_root;
-        asks = refl;
+        asks = λ count at. refl;
         is = record { after = None; old_text = was.1; new_text = now.text; changed = by_clearing; sound = now.sound; marked = ap marks bare ∙ root_marks none; made = bare };
       }
 
@@ -434,7 +467,7 @@ module _ (o : Options) (old new : List Node) (tree : IsTree old) (after : IsTree
   pub edit_made : (e : PlainEdit) → IsOfCharacters e → Allows o e → EditStep old e new → EditMade o e t u
   edit_made (replace path v) h k (n, at, (m, r)) =
       let g = replaced_made path n m v at (record { texts = h; numbers = k }) r in
-      record { before = Some g.0; op = texts.replace path v; asks = refl; is = g.1 }
+      record { before = Some g.0; op = texts.replace path v; asks = λ count at. (at, refl); is = g.1 }
   edit_made (remove path) h k (n, at, takes) = entry_made o t u path s (entry_leaves path n at takes)
   edit_made (remove_comment number) h k (n, at, r) =
       let seam = comment_has_seam old new n r in
@@ -446,38 +479,38 @@ module _ (o : Options) (old new : List Node) (tree : IsTree old) (after : IsTree
   edit_made (set_value path v) h k (r, at, set) =
       let given = set_replaced o old new tree s path r at v set in
       let g = replaced_made path given.0 given.1 v given.2 (record { texts = h; numbers = k }) given.3 in
-      record { before = Some g.0; op = texts.replace path v; asks = refl; is = g.1 }
+      record { before = Some g.0; op = texts.replace path v; asks = λ count at. (at, refl); is = g.1 }
   edit_made (ensure_value path shape) h k (r, at, made) =
       let m = held_made path shape (property_values.value_ensured o old new tree s path r at shape made) in
-      record { before = Some m.w; op = m.op; asks = (m.v, m.stands, m.asks); is = m.is }
+      record { before = Some m.w; op = m.op; asks = λ count at. (at, m.v, m.stands, m.asks); is = m.is }
   edit_made (set_boolean path b) h k (n, at, set) = boolean_set path n b at set
   edit_made (ensure_multiline path) h k (n, at, made) =
       let g = spread_at o old new path n tree s at.0 at.1 made in
       let w = keeps_document o t u path s g in
-      record { before = w.value; op = texts.ensure_multiline path; asks = refl; is = record { after = w.value; old_text = w.old_text; new_text = w.new_text; changed = by_lines; sound = w.sound; marked = w.marks; made = g } }
+      record { before = w.value; op = texts.ensure_multiline path; asks = λ count at. (at, refl); is = record { after = w.value; old_text = w.old_text; new_text = w.new_text; changed = by_lines; sound = w.sound; marked = w.marks; made = (g, lines_bring_none o old new tree s w.sound path n at.0 at.1 made) } }
   edit_made (insert_element path i v) h k (n, at, (m, put)) =
       let came = elements.came_in o old new path n m v tree s at (record { texts = h; numbers = k }) i put in
-      record { before = Some came.is.before; op = texts.insert an_array path i (entry [] v); asks = refl; is = element_made path i v came }
+      record { before = Some came.is.before; op = texts.insert an_array path i (entry [] v); asks = λ count at. (at, refl); is = element_made path i v came (element_brings_none o old new tree s came.is.sound path n at.0 at.1 i i m (entry [] v) h put) }
   edit_made (append_element path v) h k (n, at, (m, put)) =
       let last = elements.came_last o old new path n m v tree s at (record { texts = h; numbers = k }) put in
       let w = last.came.is in
       record {
         before = Some w.before;
         op = texts.insert an_array path last.i (entry [] v);
-        asks = (w.gains.old, last.i, (w.before, refl, left_so w.gains.changed), last.far, refl);
-        is = element_made path last.i v last.came;
+        asks = λ count at. (w.gains.old, last.i, changed (left_so w.gains.changed), last.far, refl);
+        is = element_made path last.i v last.came (element_brings_none o old new tree s w.sound path n at.0 at.1 (length (elements_at old n)) last.i m (entry [] v) h put);
       }
   edit_made (insert_property path i name v) h k (n, at, (m, put)) =
       let came = properties.came_in o old new path n m name v tree s at h.0 (record { texts = h.1; numbers = k }) i put in
-      record { before = Some came.is.before; op = texts.insert an_object path i (entry name v); asks = refl; is = property_made path i name v came }
+      record { before = Some came.is.before; op = texts.insert an_object path i (entry name v); asks = λ count at. (at, refl); is = property_made path i name v came (property_brings_none o old new tree s came.is.sound path n at.0 at.1 i i m (entry name v) h.0 h.1 put) }
   edit_made (append_property path name v) h k (n, at, (m, put)) =
       let last = properties.came_last o old new path n m name v tree s at h.0 (record { texts = h.1; numbers = k }) put in
       let w = last.came.is in
       record {
         before = Some w.before;
         op = texts.insert an_object path last.i (entry name v);
-        asks = (w.gains.old, last.i, (w.before, refl, left_so w.gains.changed), last.far, refl);
-        is = property_made path last.i name v last.came;
+        asks = λ count at. (w.gains.old, last.i, changed (left_so w.gains.changed), last.far, refl);
+        is = property_made path last.i name v last.came (property_brings_none o old new tree s w.sound path n at.0 at.1 (length (elements_at old n)) last.i m (entry name v) h.0 h.1 put);
       }
   edit_made (ensure_property path name shape how) h k (n, at, (m, (found, first, by))) = named_made path n name shape at how h found m first by
   edit_made (set_commas path mode) h k (n, at, set) =
@@ -486,7 +519,7 @@ module _ (o : Options) (old new : List Node) (tree : IsTree old) (after : IsTree
       record {
         before = w.value;
         op = texts.set_commas true path mode;
-        asks = refl;
+        asks = λ count at. refl;
         is = record { after = w.value; old_text = w.old_text; new_text = w.new_text; changed = by_commas; sound = w.sound; marked = w.marks; made = (w.commas, placed.0, placed.1) };
       }
   edit_made (set_some_commas path mode) h k (n, at, part) =
@@ -494,7 +527,7 @@ module _ (o : Options) (old new : List Node) (tree : IsTree old) (after : IsTree
       record {
         before = w.value;
         op = texts.set_commas false path mode;
-        asks = refl;
+        asks = λ count at. refl;
         is = record { after = w.value; old_text = w.old_text; new_text = w.new_text; changed = by_commas; sound = w.sound; marked = w.marks; made = (w.commas, some_commas_within o old new path n tree s at mode part) };
       }
   edit_made (rearrange by_blank_lines path headers order) h k (n, at, (all, made, pins)) =
@@ -503,8 +536,8 @@ module _ (o : Options) (old new : List Node) (tree : IsTree old) (after : IsTree
       record {
         before = Some w.old;
         op = texts.rearrange by_blank_lines path order;
-        asks = refl;
-        is = record { after = Some w.new; old_text = w.old_text; new_text = w.new_text; changed = by_sorting w.entries; sound = w.sound; marked = w.marks; made = (a.0, sorted_outside path order old new a.0, λ e. a.1 (pins e)) };
+        asks = λ count at. (at, refl);
+        is = record { after = Some w.new; old_text = w.old_text; new_text = w.new_text; changed = by_sorting w.entries; sound = w.sound; marked = w.marks; made = (a.0, sorted_outside path order old new a.0, (λ e. a.1 (pins e)), sort_brings_none o old new tree s w.sound by_blank_lines path n headers order after at.0 at.1 all made) };
       }
   edit_made (rename_property path name) h k (n, at, (m, r)) = property_renamed path n m name at h r
   edit_made (insert_comment path place text) h k (n, at, (may, comes)) = remark_made path n place text at h k may comes

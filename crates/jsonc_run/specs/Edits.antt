@@ -135,6 +135,23 @@ place_of (rearrange by_blank_lines path headers order) = at_container path
 place_of (rename_property path name) = at_property path
 place_of (insert_comment path place text) = at_entry path
 
+-- What the options have to allow of an edit: each number that it writes is, whole, one of theirs; and where a comment is inserted they allow comments.
+abbrev pub Allows : Options → PlainEdit → Type 0
+Allows o (replace path v) = IsOfNumbers o v
+Allows o (set_root v) = IsOfNumbers o v
+Allows o (replace_property path name v) = IsOfNumbers o v
+Allows o (set_value path v) = IsOfNumbers o v
+Allows o (insert_element path i v) = IsOfNumbers o v
+Allows o (append_element path v) = IsOfNumbers o v
+Allows o (insert_property path i name v) = IsOfNumbers o v
+Allows o (append_property path name v) = IsOfNumbers o v
+Allows o (insert_comment path place text) = IsTrue o.comments
+Allows o e = Unit {0}
+
+-- so it is of an edit that is asked for: how it sorts is of no weight
+abbrev pub Fits : {A : Type 0} → Options → Edit A → Type 0
+Fits o e = Allows o (operation_of unsorted e)
+
 -- what an edit writes into a document: a value, a name, a property, or a comment
 pub data Writes : Type 0 where
   nothing : Writes
@@ -157,21 +174,7 @@ written_by (rename_property path name) = a_name name
 written_by (insert_comment path place text) = a_comment text
 written_by e = nothing
 
--- these options allow it: each number in it is, whole, one of theirs; and a comment wants options that allow comments
-abbrev pub AllowsWritten : Options → Writes → Type 0
-AllowsWritten o (a_value v) = IsOfNumbers o v
-AllowsWritten o (a_property name v) = IsOfNumbers o v
-AllowsWritten o (a_comment text) = IsTrue o.comments
-AllowsWritten o w = Unit {0}
-
-abbrev pub Allows : Options → PlainEdit → Type 0
-Allows o e = AllowsWritten o (written_by e)
-
--- so it is of an edit that is asked for: how it sorts is of no weight
-abbrev pub Fits : {A : Type 0} → Options → Edit A → Type 0
-Fits o e = Allows o (operation_of unsorted e)
-
--- and each string, name, number and comment is characters, as those of an `Edit` are
+-- each string, name, number and comment in it is characters, as those of an `Edit` are
 abbrev pub AreOfCharacters : Writes → Type 0
 AreOfCharacters nothing = Unit {0}
 AreOfCharacters (a_value v) = IsOfTexts v

@@ -1,11 +1,12 @@
 -- What each operation makes of a document: of its value, its marks, which are its literals and comments as they are written, and its leaves.
-use Rattle.std.specs.Prelude.{◌≡◌, ℕ, Bool, true, false, List, [], ◌∷◌, ◌++◌, Option, Some, None, chars, count_by, length}
+use Rattle.std.specs.Prelude.{◌≡◌, ◌⊎◌, ℕ, Bool, true, false, List, [], ◌∷◌, ◌++◌, Option, Some, None, IsTrue, chars, count_by, length}
 use Rattle.jsonc_text.specs.Options.{Options}
 use Rattle.jsonc_text.specs.Plain.{Plain, boolean}
 use Rattle.jsonc_text.specs.Spelling.{spelled}
-use Rattle.jsonc_tree.specs.Content.{Content}
+use Rattle.jsonc_tree.specs.Content.{Content, newline_text}
 use Rattle.jsonc_tree.specs.OrderedTree.{OrderedTree, leaves, Top, none, more}
 use Rattle.jsonc_sound.specs.Changes.{Changed}
+use Rattle.jsonc_sound.specs.Shape.{printed_text}
 use Rattle.jsonc_sound.specs.ChangeLaws.{DiffersIn}
 use Rattle.jsonc_sound.specs.TreeChanges.{leaves_of, property_of, DocumentChanged}
 use Rattle.jsonc_layout.specs.from_input.Layout.{Layout}
@@ -28,7 +29,7 @@ use Rattle.jsonc_text.specs.declared.edit.Place.{Place}
 use Rattle.jsonc_text.specs.declared.edit.Place.TheVariants.{Above, After}
 use Rattle.jsonc_text.specs.declared.edit.TrailingCommaMode.{TrailingCommaMode}
 use Rattle.jsonc_sort.specs.Laws.{SortsEntries}
-use Rattle.jsonc_run.specs.texts.Edits.{Operation, nothing, replace, set_boolean, replace_property, come_first, insert, remove, remove_comment, clear_root, ensure_multiline, set_commas, rearrange, rename_property, insert_comment, options_behind}
+use Rattle.jsonc_run.specs.texts.Edits.{Operation, nothing, replace, set_boolean, replace_property, come_first, insert, remove, remove_comment, clear_root, ensure_multiline, set_commas, rearrange, rename_property, insert_comment, options_behind, is_odd_blank, Has, marks_written, text_of_marks}
 use Rattle.jsonc_run.specs.EntriesHeld.{EntryHolds}
 use Rattle.jsonc_run.specs.texts.Entries.{Named}
 use Rattle.jsonc_run.specs.texts.Paths.{an_array, an_object}
@@ -81,15 +82,23 @@ pub data EntryRemoved (t u : OrderedTree) : List ℕ → Type 0 where
 abbrev pub FirstComes : Plain → OrderedTree → OrderedTree → Type 0
 FirstComes v t u = (layout : Layout) × (row next : OrderedTree) × (t ≡ root_with row) × (u ≡ root_with next) × ValueInserted (laid layout v) row next
 
+-- the layout's line ends and indents have of blanks that are neither spaces nor LFs those alone that the tree prints
+abbrev pub IsTold : OrderedTree → Layout → Type 0
+IsTold t layout = (c : ℕ) → IsTrue (is_odd_blank c) → Has c (newline_text layout.newline ++ (chars layout.current ++ chars layout.single)) → Has c (printed_text t)
+
+-- of blanks that are neither spaces nor LFs the second tree prints those alone that the first one prints, or that the operation writes
+abbrev pub PrintsNoBlank : Operation → OrderedTree → OrderedTree → Type 0
+PrintsNoBlank op t u = (c : ℕ) → IsTrue (is_odd_blank c) → Has c (printed_text u) → Has c (printed_text t) ⊎ Has c (text_of_marks (marks_written op))
+
 -- Spaces have come into the document, and then in the row of the object at the path, between its front and its rest, a property has been replaced by one of this
--- name and value, in some layout; all leaves before and after stay. One space has come or none: directly before what is printed behind it, where its value is a
+-- name and value, in a layout that the document tells; all leaves before and after stay. One space has come or none: directly before what is printed behind it, where its value is a
 -- literal without quotes.
 pub data ReplacesProperty (name : List ℕ) (v : Plain) (t u : OrderedTree) : List ℕ → Type 0 where
   property_given : (path : List ℕ) (i : ℕ) (layout : Layout) (spaced front was back : OrderedTree) → SpacesPut t spaced
       → PropertyChanged front was (laid_property layout name v).below back path spaced u
       → DiffersIn (leaves_of (property_of was)) (leaves_of (property_of (laid_property layout name v).below)) (leaves spaced) (leaves u)
       → (seam : PropertyReplacedWithSeam path i was (laid_property layout name v).below t u) → (seam.behind ≡ true → is_bare_value v ≡ true)
-      → ReplacesProperty name v t u (path ++ i ∷ [])
+      → IsTold t layout → ReplacesProperty name v t u (path ++ i ∷ [])
 
 -- In the object at the path the name of a property has been replaced by this one, between quotes; what is behind it in the property stays, and all leaves before the
 -- property and behind it.
@@ -142,19 +151,20 @@ IsChangedAt path t u = (was now : Top) × DocumentChanged was now path t u
 -- Where in a sound document it is made, and that all else stays: one line for each operation, with no premise.
 abbrev pub MadeIn : Options → OrderedTree → Operation → OrderedTree → Type 0
 MadeIn o t nothing u = u ≡ t
-MadeIn o t (replace path v) u = ReplacesValue path v t u
+MadeIn o t (replace path v) u = (given : ReplacesValue path v t u) × IsTold t given.layout
 MadeIn o t (set_boolean path b) u = (was : Bool) × (given : ReplacesValue path (boolean b) t u) × (given.was ≡ boolean_leaf was) × (given.seams.behind ≡ false) × (b ≡ true → given.seams.before ≡ false)
     × (given.seams.before ≡ true → is_hex_leaf (last_printed given.seams.front) ≡ true)
 MadeIn o t (replace_property path new) u = ReplacesProperty new.name new.value t u path
-MadeIn o t (come_first v) u = FirstComes v t u
-MadeIn o t (insert an_array path i new) u = ElementInsertedAt o path i new.value t u
-MadeIn o t (insert an_object path i new) u = PropertyInsertedAt o path i new.name new.value t u
+MadeIn o t (come_first v) u = FirstComes v t u × PrintsNoBlank (come_first v) t u
+MadeIn o t (insert an_array path i new) u = ElementInsertedAt o path i new.value t u × PrintsNoBlank (insert an_array path i new) t u
+MadeIn o t (insert an_object path i new) u = PropertyInsertedAt o path i new.name new.value t u × PrintsNoBlank (insert an_object path i new) t u
 MadeIn o t (remove path) u = EntryRemoved t u path
 MadeIn o t (remove_comment number) u = (loses : LosesComment t u) × (comments_ahead loses ≡ number) × (seam : LosesWithSeam t u) × (comments_before seam ≡ number)
 MadeIn o t clear_root u = u ≡ root_with none
-MadeIn o t (ensure_multiline path) u = SpreadAt path t u
+MadeIn o t (ensure_multiline path) u = SpreadAt path t u × PrintsNoBlank (ensure_multiline path) t u
 MadeIn o t (set_commas true path mode) u = OnlyCommas mode t u × (at : IsChangedAt path t u) × IsAsSaid mode o at.1.content at.1.below
 MadeIn o t (set_commas false path mode) u = OnlyCommas mode t u × IsChangedAt path t u
-MadeIn o t (rearrange by_blank_lines path order) u = (sorted : SortedAt path order t u) × KeepsOutside sorted × (by_blank_lines ≡ true → PinsIn sorted)
+MadeIn o t (rearrange by_blank_lines path order) u = (sorted : SortedAt path order t u) × KeepsOutside sorted × (by_blank_lines ≡ true → PinsIn sorted) × PrintsNoBlank (rearrange by_blank_lines path order) t u
 MadeIn o t (rename_property path name) u = RenamesProperty name t u path
-MadeIn o t (insert_comment path place comment) u = CommentInserted path place comment t u
+MadeIn o t (insert_comment path Above comment) u = CommentInserted path Above comment t u × PrintsNoBlank (insert_comment path Above comment) t u
+MadeIn o t (insert_comment path After comment) u = CommentInserted path After comment t u

@@ -4,5 +4,6 @@ pub mod Stretches
 pub mod Layout
 pub mod Entering
 pub mod Sorting
+pub mod Leaving
 pub mod Edits
 pub mod Commenting

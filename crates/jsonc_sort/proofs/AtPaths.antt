@@ -1,11 +1,11 @@
 -- The elements of an array or object at a path of a sound document come in another order.
-use Rattle.std.proofs.Common.{◌≡◌, ◌∙◌, ℕ, ◌<◌, Bool, true, false, not, ◌&&◌, inl, inr, List, [], ◌∷◌, ◌++◌, length, map, IsTrue, refl, sym, ap, subst}
+use Rattle.std.proofs.Common.{◌≡◌, ◌∙◌, ℕ, ◌<◌, Bool, true, false, not, ◌&&◌, inl, inr, List, [], ◌∷◌, ◌++◌, All, length, map, IsTrue, refl, sym, ap, subst}
 use Rattle.std.specs.Prelude.{if◌then◌else◌, zip, IsPermutation}
 use Rattle.std.specs.List.{range_with_len}
 use Rattle.std.proofs.lemmas.Bool.{cases_Bool}
 use Rattle.jsonc_text.specs.Options.{Options}
-use Rattle.jsonc_tree.specs.Content.{Content, is_container, newline, token}
-use Rattle.jsonc_tree.specs.OrderedTree.{OrderedTree, Top, none, more, followed_by, ordered_tree}
+use Rattle.jsonc_tree.specs.Content.{Content, newline, token}
+use Rattle.jsonc_tree.specs.OrderedTree.{OrderedTree, Top, none, more, followed_by, leaves, ordered_tree, own_leaf}
 use Rattle.jsonc_tree.specs.Tree.{Node, content_at, children_at, IsTree, IsOver}
 use Rattle.jsonc_tree.specs.declared.node.CstNewlineKind.{CstNewlineKind}
 use Rattle.jsonc_layout.specs.lines.Breadth.{newline_kind_at}
@@ -14,18 +14,20 @@ use Rattle.jsonc_sound.specs.Lines.{is_line_comment}
 use Rattle.jsonc_sound.specs.Shape.{token_then}
 use Rattle.jsonc_sound.specs.Rows.{RowKind, closing, container_of}
 use Rattle.jsonc_sound.specs.SoundTrees.{SoundTree}
-use Rattle.jsonc_sound.specs.TreeChanges.{DocumentChanged}
+use Rattle.jsonc_sound.specs.TreeChanges.{DocumentChanged, leaves_of}
 use Rattle.jsonc_edit.specs.Changes.{row_below, top_at}
 use Rattle.jsonc_edit.specs.Paths.{IsAt}
-use Rattle.jsonc_edit.proofs.FittingNodes.{over_there}
+use Rattle.jsonc_edit.proofs.FittingNodes.{children_over, over_there}
 use Rattle.jsonc_edit.specs.remove.Removed.{has_brackets}
 use Rattle.jsonc_edit.specs.multiline.Laws.{bracketed}
 use Rattle.jsonc_edit.specs.multiline.Lines.{between}
 use Rattle.jsonc_edit.specs.multiline.Multiline.{TakesRow}
 use Rattle.jsonc_edit.specs.multiline.Slots as multiline
 use Rattle.jsonc_edit.proofs.Standing.{standing}
-use Rattle.jsonc_edit.proofs.lemmas.multiline.BracketedRows.{bracketed_row, in_row, inner_there, row_stays, row_taken, BracketedRow}
-use Rattle.jsonc_edit.proofs.lemmas.multiline.FilledRows.{AllFit}
+use Rattle.jsonc_edit.proofs.lemmas.multiline.BracketedRows.{bracketed_row, in_row, inner_all, inner_there, row_stays, row_taken, BracketedRow}
+use Rattle.jsonc_edit.proofs.LayoutTold as leaves_told
+use Rattle.jsonc_edit.proofs.lemmas.multiline.RowsTold.{row_told}
+use Rattle.jsonc_edit.proofs.lemmas.multiline.FilledRows.{AllFit, AllHold, IsLeaf}
 use Rattle.jsonc_edit.proofs.lemmas.multiline.LineEnds.{has_its_brackets}
 use Rattle.jsonc_edit.proofs.Uniqueness.{over_at}
 use Rattle.jsonc_sort.specs.Slots.{Slot, stays, comes, all_stay, row_in, row_then}
@@ -42,46 +44,48 @@ use Rattle.jsonc_sort.proofs.Lines.{rearranged_held}
 use Rattle.jsonc_sort.proofs.SortedRow.{elements_between, lines_held}
 use Rattle.jsonc_sort.proofs.Weights.{entry_count}
 
--- what comes is a leaf
-abbrev IsLeaf : Slot → Type 0
-IsLeaf (stays n) = Unit {0}
-IsLeaf (comes content) = is_container content ≡ false
+-- of what comes this holds: commas, and ends of lines
+module _ (C : Content → Type 0) where
+  abbrev ComesSo : Slot → Type 0
+  ComesSo (stays n) = Unit {0}
+  ComesSo (comes content) = C content
 
-stay_leaves : (row : List ℕ) → Each IsLeaf (all_stay row)
-stay_leaves [] = tt
-stay_leaves (n ∷ row) = (tt, stay_leaves row)
+  all_come_so : (row : List ℕ) → Each ComesSo (all_stay row)
+  all_come_so [] = tt
+  all_come_so (n ∷ row) = (tt, all_come_so row)
 
-module _ (at : ℕ → Content) where
-  tail_leaves : (comma : Bool) (tail : List ℕ) → Each IsLeaf (tail_with at comma tail)
-  tail_leaves true tail = choose (Each IsLeaf) (has_comma at tail) (all_stay tail) (comes (token 0x2C) ∷ all_stay tail) (stay_leaves tail) (refl, stay_leaves tail)
-  tail_leaves false tail = choose (Each IsLeaf) (has_comma at tail) (all_stay (without_comma at tail)) (all_stay tail) (stay_leaves (without_comma at tail)) (stay_leaves tail)
+module _ (C : Content → Type 0) (comma : C (token 0x2C)) (at : ℕ → Content) where
+  tail_leaves : (comma : Bool) (tail : List ℕ) → Each (ComesSo C) (tail_with at comma tail)
+  tail_leaves true tail = choose (Each (ComesSo C)) (has_comma at tail) (all_stay tail) (comes (token 0x2C) ∷ all_stay tail) (all_come_so C tail) (comma, all_come_so C tail)
+  tail_leaves false tail = choose (Each (ComesSo C)) (has_comma at tail) (all_stay (without_comma at tail)) (all_stay tail) (all_come_so C (without_comma at tail)) (all_come_so C tail)
 
-  one_leaves : (first comma : Bool) (p : Entry × Entry) → Each IsLeaf (placed_one at first comma p)
+  one_leaves : (first comma : Bool) (p : Entry × Entry) → Each (ComesSo C) (placed_one at first comma p)
   one_leaves first comma p =
       let front : List Slot = all_stay p.0.lead.front in
       let travels : List Slot = all_stay (travelling at first p.1.lead.travels) in
       let indent : List Slot = all_stay p.0.lead.indent in
-      each_joined IsLeaf (front ++ travels ++ indent) (stays p.1.element ∷ tail_with at comma p.1.tail)
-      (each_joined IsLeaf (front ++ travels) indent (each_joined IsLeaf front travels (stay_leaves p.0.lead.front) (stay_leaves (travelling at first p.1.lead.travels))) (stay_leaves p.0.lead.indent))
+      each_joined (ComesSo C) (front ++ travels ++ indent) (stays p.1.element ∷ tail_with at comma p.1.tail)
+      (each_joined (ComesSo C) (front ++ travels) indent (each_joined (ComesSo C) front travels (all_come_so C p.0.lead.front) (all_come_so C (travelling at first p.1.lead.travels))) (all_come_so C p.0.lead.indent))
       (tt, tail_leaves comma p.1.tail)
 
-  placed_leaves : (first commas : Bool) (ps : List (Entry × Entry)) → Each IsLeaf (placed at first commas ps)
+  placed_leaves : (first commas : Bool) (ps : List (Entry × Entry)) → Each (ComesSo C) (placed at first commas ps)
   placed_leaves first commas [] = tt
   placed_leaves first commas (p ∷ []) = one_leaves first commas p
-  placed_leaves first commas (p ∷ q ∷ rest) = each_joined IsLeaf (placed_one at first true p) (placed at false commas (q ∷ rest)) (one_leaves first true p) (placed_leaves false commas (q ∷ rest))
+  placed_leaves first commas (p ∷ q ∷ rest) = each_joined (ComesSo C) (placed_one at first true p) (placed at false commas (q ∷ rest)) (one_leaves first true p) (placed_leaves false commas (q ∷ rest))
 
-  lines_leaves : (k : CstNewlineKind) (slots : List Slot) → Each IsLeaf slots → Each IsLeaf (lines_ended at k slots)
-  lines_leaves k [] h = tt
-  lines_leaves k (s ∷ slots) h =
-      choose (Each IsLeaf) (is_line_comment (slot_content at s) && goes_on at slots) (s ∷ comes (newline k) ∷ lines_ended at k slots) (s ∷ lines_ended at k slots)
-      (h.0, (refl, lines_leaves k slots h.1)) (h.0, lines_leaves k slots h.1)
+  lines_leaves : (k : CstNewlineKind) → C (newline k) → (slots : List Slot) → Each (ComesSo C) slots → Each (ComesSo C) (lines_ended at k slots)
+  lines_leaves k line [] h = tt
+  lines_leaves k line (s ∷ slots) h =
+      choose (Each (ComesSo C)) (is_line_comment (slot_content at s) && goes_on at slots) (s ∷ comes (newline k) ∷ lines_ended at k slots) (s ∷ lines_ended at k slots)
+      (h.0, (line, lines_leaves k line slots h.1)) (h.0, lines_leaves k line slots h.1)
 
-  sorted_leaves : (k : CstNewlineKind) (h : Headers) (row order : List ℕ) → Each IsLeaf (sorted at k h row order)
-  sorted_leaves k h row order =
+  sorted_leaves : (k : CstNewlineKind) → C (newline k) → (h : Headers) (row order : List ℕ) → Each (ComesSo C) (sorted at k h row order)
+  sorted_leaves k line h row order =
       let es : List Entry = entries at h row in
-      choose (Each IsLeaf) (is_unchanged order) (all_stay row) (lines_ended at k (rearranged at es order ++ all_stay (row_end at row))) (stay_leaves row)
-      (lines_leaves k (rearranged at es order ++ all_stay (row_end at row)) (each_joined IsLeaf (rearranged at es order) (all_stay (row_end at row)) (placed_leaves true (ends_with_comma at es) (zip es (map (entry_at es) order))) (stay_leaves (row_end at row))))
+      choose (Each (ComesSo C)) (is_unchanged order) (all_stay row) (lines_ended at k (rearranged at es order ++ all_stay (row_end at row))) (all_come_so C row)
+      (lines_leaves k line (rearranged at es order ++ all_stay (row_end at row)) (each_joined (ComesSo C) (rearranged at es order) (all_stay (row_end at row)) (placed_leaves true (ends_with_comma at es) (zip es (map (entry_at es) order))) (all_come_so C (row_end at row))))
 
+module _ (at : ℕ → Content) where
   sorted_held : (P : ℕ → Type 0) (k : CstNewlineKind) (h : Headers) (row order : List ℕ) → Each P row → IsPermutation (range_with_len 0 (length (entries at h row))) order → Each (lines.Held at P) (sorted at k h row order)
   sorted_held P k h row order each p =
       choose (Each (lines.Held at P)) (is_unchanged order) (all_stay row) (lines_ended at k (rearranged at (entries at h row) order ++ all_stay (row_end at row))) (stay_held row each)
@@ -91,10 +95,10 @@ module _ (at : ℕ → Content) where
       stay_held [] e = tt
       stay_held (n ∷ row) e = (e.0, stay_held row e.1)
 
-all_fit : (old : List Node) (at : ℕ → Content) (slots : List Slot) → Each (lines.Held at (λ n. n < length old)) slots → Each IsLeaf slots → AllFit old slots
-all_fit old at [] h k = tt
-all_fit old at (stays n ∷ slots) h k = (h.0, all_fit old at slots h.1 k.1)
-all_fit old at (comes content ∷ slots) h k = (k.0, all_fit old at slots h.1 k.1)
+all_hold : (P : ℕ → Type 0) (C : Content → Type 0) (at : ℕ → Content) (slots : List Slot) → Each (lines.Held at P) slots → Each (ComesSo C) slots → AllHold P C slots
+all_hold P C at [] h k = tt
+all_hold P C at (stays n ∷ slots) h k = (h.0, all_hold P C at slots h.1 k.1)
+all_hold P C at (comes content ∷ slots) h k = (k.0, all_hold P C at slots h.1 k.1)
 
 -- the row of trees in places, by numbers of nodes
 rows_same : (old : List Node) (slots : List Slot) → multiline.row_in old slots ≡ row_in (top_at old) slots
@@ -179,10 +183,14 @@ module _ (o : Options) (old new : List Node) (path : List ℕ) (c : ℕ) (h : He
   abbrev slots : List Slot
   slots = row_sorted old c h order
 
+  all_so : (P : ℕ → Type 0) (C : Content → Type 0) → C (token 0x2C) → C (newline (newline_kind_at old c)) → All P b.inner → AllHold P C slots
+  all_so P C comma line inner =
+      all_hold P C (content_at old) slots (sorted_held (content_at old) P s.newline h s.row order (subst (Each P) (sym (in_row old tree c there b)) (all_each P b.inner inner)) entries_perm)
+      (sorted_leaves C comma (content_at old) s.newline line h s.row order)
+
   slots_fit : AllFit old slots
   slots_fit =
-      let inner : Each (λ n. n < length old) s.row = subst (Each (λ n. n < length old)) (sym (in_row old tree c there b)) (all_each (λ n. n < length old) b.inner (inner_there old tree c there b)) in
-      all_fit old (content_at old) slots (sorted_held (content_at old) (λ n. n < length old) s.newline h s.row order inner entries_perm) (sorted_leaves (content_at old) s.newline h s.row order)
+      all_so (λ n. n < length old) IsLeaf refl refl (inner_there old tree c there b)
 
   rearranged_at : TakesRow old new c slots → SortedTo new
   rearranged_at r = in_places new (row_taken old tree c there b new r slots_fit path at) (rows_same old slots)
@@ -192,6 +200,18 @@ module _ (o : Options) (old new : List Node) (path : List ℕ) (c : ℕ) (h : He
 
   all_move : (a u : Bool) → a ≡ true → u ≡ false → (a && not u) ≡ true
   all_move a u e f = ap (λ x. x && not u) e ∙ ap not f
+
+  -- and what holds of all leaves holds then, if it holds of commas and of the ends of lines that come
+  pub sort_told : (Q : Content → Type 0) → leaves_told.Each Q (leaves (ordered_tree old 0)) → Q (token 0x2C) → Q (newline (newline_kind_at old c)) → Rearranged old new c h order → leaves_told.Each Q (leaves (ordered_tree new 0))
+  sort_told Q all comma line made =
+      let P : ℕ → Type 0 = λ n. leaves_told.Each Q (leaves_of (top_at old n)) in
+      let C : Content → Type 0 = λ content. leaves_told.Each Q (own_leaf content) in
+      let kids_told : All P (children_at old c) = λ k d h. leaves_told.top_told Q old tree all _ (children_over old tree c over k d h) in
+      let hold : AllHold P C slots = all_so P C (comma, tt) (line, tt) (inner_all old tree c there b P kids_told) in
+      elim (cases_Bool (is_unchanged order)) [
+        | inl e ↦ subst (λ (ns : List Node). leaves_told.Each Q (leaves (ordered_tree ns 0))) (sym (made.was (no_move (has_brackets old c) (is_unchanged order) whole e))) all
+        | inr e ↦ row_told Q old tree c there b new path at (made.is (all_move (has_brackets old c) (is_unchanged order) whole e)) slots_fit hold all
+      ]
 
   pub sorted_at : Rearranged old new c h order → SortedTo new
   sorted_at made =

@@ -14,3 +14,4 @@ pub mod Commas
 pub mod Places
 pub mod Documents
 pub mod Inserting
+pub mod SeamIndents

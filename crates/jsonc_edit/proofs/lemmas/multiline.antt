@@ -5,6 +5,7 @@ pub mod Reflow
 pub mod FilledRows
 pub mod OnLines
 pub mod BracketedRows
+pub mod RowsTold
 pub mod Documents
 pub mod SoundRows
 pub mod SameDocument

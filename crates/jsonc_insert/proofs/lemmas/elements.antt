@@ -9,6 +9,7 @@ pub mod Containers
 pub mod Blanks
 pub mod Plans
 pub mod PlannedRows
+pub mod Told
 pub mod InsertedValues
 pub mod SpreadObjects
 pub mod Members

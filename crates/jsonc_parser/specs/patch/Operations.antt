@@ -3,7 +3,8 @@ use Rattle.std.specs.Prelude.{◌≡◌, ◌≢◌, ◌⊎◌, ℕ, List, [], �
 use Rattle.std.specs.List.{All}
 use Rattle.jsonc_text.specs.Plain.{Plain, collapse, object, Members}
 use Rattle.jsonc_run.specs.texts.Entries.{of, Becomes, Named}
-use Rattle.jsonc_run.specs.texts.Edits.{BecomesProperty, Loses}
+use Rattle.jsonc_run.specs.texts.Edits.{BecomesProperty}
+use Rattle.jsonc_run.specs.texts.Leaving.{Loses}
 use Rattle.jsonc_run.specs.texts.Paths.{an_array, an_object}
 use Rattle.jsonc_parser.specs.patch.Equality.{AreEqual}
 use Rattle.jsonc_parser.specs.patch.Numbers.{SameNumber}

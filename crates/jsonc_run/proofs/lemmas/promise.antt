@@ -1,4 +1,6 @@
 pub mod Leaves
+pub mod BlanksCome
+pub mod BlanksStay
 pub mod Values
 pub mod Entries
 pub mod Reversed
@@ -25,6 +27,12 @@ pub mod Inserting
 pub mod Places
 pub mod Bare
 pub mod Replacing
+pub mod BlanksLaid
+pub mod BlanksTold
+pub mod BlanksLeaves
+pub mod BlanksFirst
+pub mod BlanksRows
+pub mod BlanksEntries
 pub mod LeafEnds
 pub mod NothingBeside
 pub mod NothingBehind

@@ -1,5 +1,5 @@
 -- What a list of edits makes of a text, in the words of texts.
-use Rattle.std.specs.Prelude.{◌≡◌, ◌↔◌, ℕ, false, List, [], ◌∷◌, Some, length, take}
+use Rattle.std.specs.Prelude.{◌≡◌, ◌↔◌, ◌<◌, ℕ, false, List, [], ◌∷◌, Some, length, take}
 use Rattle.std.specs.List.{slice_get, All}
 use Rattle.jsonc_text.specs.Documents.{Document, IsOne}
 use Rattle.jsonc_run.specs.texts.Edits as texts
@@ -11,8 +11,9 @@ use Rattle.jsonc_text.specs.declared.edit.EditError.{EditError}
 use Rattle.jsonc_text.specs.declared.edit.EditError.TheVariants.{NoSuchPlace}
 use Rattle.jsonc_text.specs.declared.edit.TrailingCommaMode.{TrailingCommaMode}
 use Rattle.jsonc_run.specs.declared.edit.Edit.{Edit}
+use Rattle.jsonc_run.specs.declared.edit.Edit.TheVariants.{RemoveComment, SetTrailingCommas}
 use Rattle.jsonc_run.specs.Edits.{PlainEdit, operation_of, set_commas, unsorted, Fits}
-use Rattle.jsonc_run.specs.Named.{IsNamed, Asks}
+use Rattle.jsonc_run.specs.Named.{HasContainerAt, Asks}
 use Rattle.jsonc_run.specs.Refusals.{MayFailWith}
 use Rattle.jsonc_run.specs.promise.Within.{StaysWithin}
 
@@ -20,9 +21,11 @@ use Rattle.jsonc_run.specs.promise.Within.{StaysWithin}
 abbrev pub in_order : {A : Type 0} → List ℕ → Edit A → PlainEdit
 in_order order e = operation_of (record unsorted { order = order }) e
 
--- in the document the edit has its place
+-- In the document the edit has its place: the comment is one of the document's, or an array or object stands where commas are set; and any other asks for some operation.
 abbrev pub HasPlace : {A : Type 0} → Document → Edit A → Type 0
-HasPlace d e = IsNamed d.value (length (comments_of d.marks)) (operation_of unsorted e)
+HasPlace d (RemoveComment number) = number < length (comments_of d.marks)
+HasPlace d (SetTrailingCommas path mode) = HasContainerAt path.items d.value
+HasPlace d e = (op : Operation) × Asks d.value (operation_of unsorted e) op
 
 -- From the one document the edits lead to the other: each has its place in the document that the one before it made, and leads from there to the next by the
 -- operation that it asks for there, each sort with an order of its own.

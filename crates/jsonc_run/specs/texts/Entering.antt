@@ -92,10 +92,11 @@ pub data Spacing : List ℕ → Type 0 where
   a_line : {line indent : List ℕ} → IsLineEnd line → AreSpaces indent → Spacing (line ++ indent)
 
 -- An entry with this text comes between others, those that stand before it and those that follow, before the rest. All around it stays but blanks directly inside of
--- the brackets; at most a comma comes before it, directly behind an entry, and spacing, and behind it a comma and spacing. A gap leads to it from the first bracket or
--- a comma of the row whose line does not end there, which is this spacing alone. Or, where a line ends directly before it, comments on the comma's line are part of that, and with them that line ended. Or it
--- is the only entry, and the gap is trivia on the bracket's line, or a line ends directly before it. Where no comma comes behind it a gap leads from there to the last
--- bracket; where one comes, entries follow, or a line ends directly before it. From the only entry blanks alone lead to the last bracket.
+-- the brackets. At most a comma comes before it, directly behind an entry, and spacing; and behind it a comma and spacing. A gap leads to it from the first bracket or
+-- a comma of the row whose line does not end there, which is this spacing alone.
+-- Where a line ends directly before it, comments on the comma's line may be part of the gap, and with them that line ended. Of the only entry the gap is trivia on the
+-- bracket's line, or a line ends directly before it; and from it blanks alone lead to the last bracket. Where no comma comes behind it a gap leads from there to the last
+-- bracket; where one comes, entries follow, or a line ends directly before it.
 abbrev pub Joins : Kind → List ℕ → (before follow : List (List ℕ)) → (new rest : List ℕ) → Document → Document → Type 0
 Joins kind path before follow new rest d e = (spread shorter front led gap comma behind back : List ℕ) × Spreads kind path d spread × Trims kind spread shorter × Trims kind shorter (front ++ back)
     × Led d.options kind (gap ++ (new ++ rest)) front led × Spacing gap

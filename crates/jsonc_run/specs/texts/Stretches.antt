@@ -1,9 +1,10 @@
 -- Literals and comments of a document parted at a place, and stretches of text that edits speak of.
-use Rattle.std.specs.Prelude.{ℕ, ◌≡◌, Bool, not, ◌&&◌, List, [], ◌∷◌, ◌++◌, IsTrue}
+use Rattle.std.specs.Prelude.{ℕ, ◌≡◌, ◌⊎◌, Bool, not, ◌&&◌, ◌||◌, ◌==◌, List, [], ◌∷◌, ◌++◌, IsTrue}
 use Rattle.jsonc_text.specs.Options.{Options}
 use Rattle.jsonc_text.specs.Text.{Many, is_line_end}
 use Rattle.jsonc_text.specs.Gaps.{Gap, IsComment, is_blank}
 use Rattle.jsonc_text.specs.Spelling.{spelled}
+use Rattle.jsonc_text.specs.Words.{is_in_word}
 use Rattle.jsonc_text.specs.Marks.{Mark, MarksTo, literals_of}
 use Rattle.jsonc_text.specs.Documents.{Document}
 use Rattle.jsonc_run.specs.texts.Paths.{Kind, an_array, an_object, Value, HasEntries}
@@ -56,6 +57,24 @@ pub data Without (p : ℕ → Bool) : List ℕ → List ℕ → Type 0 where
 -- the document says the same, in the same literals and comments
 abbrev pub Same : Document → Document → Type 0
 Same d e = (e.value ≡ d.value) × (e.marks ≡ d.marks)
+
+-- a character of a number, a word, `true`, `false` or `null`
+abbrev pub is_bare : ℕ → Bool
+is_bare c = is_in_word c || c == 0x2B || c == 0x2E
+
+-- one such character ends the first text, and one begins the second
+abbrev pub Meet : List ℕ → List ℕ → Type 0
+Meet x y = (u v : List ℕ) × (c d : ℕ) × (x ≡ u ++ c ∷ []) × (y ≡ d ∷ v) × IsTrue (is_bare c && is_bare d)
+
+-- between front and back stands nothing; or one space, where without it two literals without quotes would meet
+abbrev pub IsSeam : List ℕ → List ℕ → List ℕ → Type 0
+IsSeam front back s = (s ≡ []) ⊎ ((s ≡ 0x20 ∷ []) × Meet front back)
+
+-- Between front and back `was` is replaced by `now`, perhaps with a space beside it. All before and all behind stays, to the character.
+pub record Text (front was left now right back : List ℕ) (d e : Document) : Type 0 where
+  pub before : d.text ≡ front ++ (was ++ back)
+  pub after : e.text ≡ front ++ (left ++ (now ++ (right ++ back)))
+  pub sides : IsSeam front (now ++ (right ++ back)) left × IsSeam (front ++ (left ++ now)) back right
 
 -- Of the document's marks those ahead stand before the one place in its text, those within from there to the other place, and those behind from there on. At the
 -- one place none goes on, and at the other none but a comment whose line blanks end there.

@@ -4,7 +4,7 @@ use Rattle.std.proofs.lemmas.List.{append_assoc}
 use Rattle.jsonc_text.specs.Options.{Options}
 use Rattle.jsonc_text.specs.Gaps.{IsComment}
 use Rattle.jsonc_text.specs.Grammar.{IsDocument}
-use Rattle.jsonc_tree.specs.Content.{Content, newline, whitespace}
+use Rattle.jsonc_tree.specs.Content.{Content, comment, newline, whitespace}
 use Rattle.jsonc_tree.specs.OrderedTree.{OrderedTree, leaves, ordered_tree, own_leaf, Shows}
 use Rattle.jsonc_tree.specs.Tree.{Node, content_at, children_at, parent_at, place_at, IsOver, IsTree}
 use Rattle.jsonc_tree.specs.declared.node.CstNewlineKind.{CstNewlineKind}
@@ -23,10 +23,11 @@ use Rattle.jsonc_sound.proofs.ShapeValues.{document_printed}
 use Rattle.jsonc_edit.specs.Changes.{top_at}
 use Rattle.jsonc_edit.specs.Put.{a_space}
 use Rattle.jsonc_edit.specs.Seams.{StandsBetween}
-use Rattle.jsonc_edit.specs.commenting.Above.{begins_own_line, indent_in, new_line, own_indent, own_line, seam_at, ComesAboveBy}
+use Rattle.jsonc_edit.specs.commenting.Above.{begins_own_line, indent_in, new_line, own_indent, own_line, seam_at, ComesAbove, ComesAboveBy}
 use Rattle.jsonc_edit.specs.commenting.Behind.{comment_follows, spaced}
 use Rattle.jsonc_edit.specs.commenting.Come.{LeavesCome}
 use Rattle.jsonc_edit.specs.commenting.Laws.{GainsAbove, GainsBehind, GainsComment, InsertsAbove, InsertsBehind, IsCommentInserted, IsEntry, StandsAbove, StandsBehind}
+use Rattle.jsonc_edit.proofs.LayoutTold.{Each, each_around}
 use Rattle.jsonc_edit.proofs.LeavesAroundNodes.{within, Within}
 use Rattle.jsonc_edit.proofs.OneValue.{document_once}
 use Rattle.jsonc_edit.proofs.SeamsAround.{holds_children}
@@ -166,6 +167,23 @@ module _ (old new : List Node) (n : ℕ) (text : List ℕ) (tree : IsTree old) w
     gains_by : (b : Bool) → ComesAboveBy b old new c n text → (gains : GainsComment text (ordered_tree old 0) (ordered_tree new 0)) × StandsAbove gains (leaves_of (top_at old n)) front back
     gains_by true r = above_on_line (newline_kind_at old c) (own_indent old n) r
     gains_by false r = above_at_seam (newline_kind_at old c) (indent_in old c) r
+
+    -- what holds of all leaves, and of those that come above the node, holds of all leaves then
+    told_by : (Q : Content → Type 0) → Each Q (leaves (ordered_tree old 0)) → Q (newline (newline_kind_at old c)) → Q (comment text) → Q (whitespace (own_indent old n)) → Q (whitespace (indent_in old c)) → Q (whitespace (seam_at old n (indent_in old c)).indent)
+        → (b : Bool) → ComesAboveBy b old new c n text → Each Q (leaves (ordered_tree new 0))
+    told_by Q all line text_so own_so indent_so rest_so true r =
+        let place : ℕ = place_at old n in
+        let contents : List Content = own_line (newline_kind_at old c) text (own_indent old n) in
+        each_around Q (come_around old new tree c place contents r (own (newline_kind_at old c) text (own_indent old n)).trivia there (cut_at old tree c there place) bare w.g w.d w.up) all (λ x. (text_so, (line, (own_so, tt))))
+    told_by Q all line text_so own_so indent_so rest_so false r =
+        let seam = seam_at old n (indent_in old c) in
+        let place : ℕ = place_at old seam.node in
+        let contents : List Content = new_line (newline_kind_at old c) (indent_in old c) (own_line (newline_kind_at old c) text seam.indent) in
+        each_around Q (come_around old new tree c place contents r (lined (newline_kind_at old c) (indent_in old c) text seam.indent).trivia there (cut_at old tree c there place) bare w.g w.d w.up) all (λ x. (line, (indent_so, (text_so, (line, (rest_so, tt))))))
+
+    pub above_told : (Q : Content → Type 0) → Each Q (leaves (ordered_tree old 0)) → Q (newline (newline_kind_at old c)) → Q (comment text) → Q (whitespace (own_indent old n)) → Q (whitespace (indent_in old c)) → Q (whitespace (seam_at old n (indent_in old c)).indent)
+        → ComesAbove old new n text → Each Q (leaves (ordered_tree new 0))
+    above_told Q all line text_so own_so indent_so rest_so comes = told_by Q all line text_so own_so indent_so rest_so (begins_own_line old n) (comes c said)
 
   module _ (o : Options) (sound : SoundTree o (ordered_tree old 0)) (allowed : IsTrue o.comments) (whole : IsText IsComment text) (e : IsEntry old n) where
     inserts_by : (b : Bool) → begins_own_line old n ≡ b → ComesAboveBy b old new e.container n text → IsCommentInserted o text (ordered_tree old 0) (ordered_tree new 0)

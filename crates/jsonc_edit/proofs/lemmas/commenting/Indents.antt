@@ -12,8 +12,7 @@ use Rattle.jsonc_tree.specs.Tree.{Node, content_at, IsOver, IsTree}
 use Rattle.jsonc_layout.specs.lines.Indents.{indents_at}
 use Rattle.jsonc_layout.specs.lines.Kinds.{is_array_or_object}
 use Rattle.jsonc_layout.specs.lines.Lines.{indent_at}
-use Rattle.jsonc_sound.specs.Leaves.{is_inner_blank}
-use Rattle.jsonc_sound.specs.Shape.{DocumentShaped}
+use Rattle.jsonc_sound.specs.Shape.{DocumentShaped, IsText}
 use Rattle.jsonc_edit.specs.Writing.{IsIndent}
 use Rattle.jsonc_edit.specs.commenting.Above.{indent_in, own_indent, without_end}
 use Rattle.jsonc_edit.specs.multiline.Lines.{lines_for}
@@ -33,21 +32,21 @@ many_ahead : {p : ℕ → Bool} (s t : List ℕ) → Many p (s ++ t) [] → Many
 many_ahead [] t m = stop
 many_ahead (c ∷ s) t (step h m) = step h (many_ahead s t m)
 
-module _ (text last rest : List ℕ) (a : IsIndent text) (b : IsIndent last) where
+module _ {p : ℕ → Bool} (text last rest : List ℕ) (a : IsText (Many p) text) (b : IsText (Many p) last) where
   abbrev at : ℕ
   at = length text - length last
 
-  told : (h : Bool) → ends_with nat_eq text last ≡ h → cond h (Some (take at text)) None ≡ Some rest → IsIndent rest
+  told : (h : Bool) → ends_with nat_eq text last ≡ h → cond h (Some (take at text)) None ≡ Some rest → IsText (Many p) rest
   told true h k =
       let same : take at text ≡ rest = (let both : Some (take at text) ≡ Some rest = k in cc) in
       let back : last ≡ drop at text = same_text last (drop at text) (sym h) in
       let utf8 : IsUtf8 (take at text) = IsUtf8-take text at a.0 (IsCharBoundary-from_drop text at (omega arith) (subst IsUtf8 back b.0)) in
       let parts : chars text ≡ chars (take at text) ++ chars (drop at text) = ap chars (sym (take-append-drop at text)) ∙ chars-append (take at text) (drop at text) utf8 in
-      subst IsIndent same (utf8, many_ahead (chars (take at text)) (chars (drop at text)) (subst (λ l. Many is_inner_blank l []) parts a.1))
+      subst (IsText (Many p)) same (utf8, many_ahead (chars (take at text)) (chars (drop at text)) (subst (λ l. Many p l []) parts a.1))
   told false h k = absurd (let wrong : None ≡ Some rest = k in cc)
 
-  by_end : (h : Bool) → ends_with nat_eq text last ≡ h → without_end text last ≡ Some rest → IsIndent rest
+  by_end : (h : Bool) → ends_with nat_eq text last ≡ h → without_end text last ≡ Some rest → IsText (Many p) rest
   by_end h is k = told h is (sym (ap (λ x. cond x (Some (take at text)) None) is) ∙ k)
 
-  pub ahead_fits : without_end text last ≡ Some rest → IsIndent rest
+  pub ahead_fits : without_end text last ≡ Some rest → IsText (Many p) rest
   ahead_fits e = by_end (ends_with nat_eq text last) refl e

@@ -78,6 +78,9 @@ module _ (ns : List Node) (tree : IsTree ns) (c : ℕ) (there : c < length ns) {
   pub inner_there : All There b.inner
   inner_there = all_front There b.inner (b.last ∷ []) rest_there
 
+  pub inner_all : (P : ℕ → Type 0) → All P (children_at ns c) → All P b.inner
+  inner_all P all = all_front P b.inner (b.last ∷ []) (All-tail P b.open_with (b.inner ++ b.last ∷ []) (subst (All P) b.children all))
+
   pub last_there : There b.last
   last_there = All-head There b.last [] (all_rest There b.inner (b.last ∷ []) rest_there)
 

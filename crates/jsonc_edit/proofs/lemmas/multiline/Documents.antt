@@ -4,8 +4,8 @@ use Rattle.std.specs.List.{flat_map, list_any}
 use Rattle.std.proofs.lemmas.Bool.{cases_Bool}
 use Rattle.std.proofs.lemmas.List.Folds.{list_any-append}
 use Rattle.jsonc_text.specs.Options.{Options}
-use Rattle.jsonc_tree.specs.Content.{token}
-use Rattle.jsonc_tree.specs.OrderedTree.{ordered_tree}
+use Rattle.jsonc_tree.specs.Content.{Content, newline, token, whitespace}
+use Rattle.jsonc_tree.specs.OrderedTree.{leaves, ordered_tree, own_leaf}
 use Rattle.jsonc_tree.specs.Tree.{Node, content_at, children_at, IsTree, IsOver}
 use Rattle.jsonc_layout.specs.nodes.Kinds.{is_newline, is_newline_at}
 use Rattle.jsonc_layout.specs.lines.Indents.{indents_at}
@@ -20,12 +20,16 @@ use Rattle.jsonc_edit.specs.multiline.Multiline.{has_line_end, TakesRow, MadeMul
 use Rattle.jsonc_edit.specs.multiline.Reflows.{has_newline, Reflows, SpreadsOut, reflows}
 use Rattle.jsonc_edit.specs.multiline.Slots.{Slot, row_in}
 use Rattle.jsonc_edit.proofs.FittingIndents.{indents_fit, indent_joined}
-use Rattle.jsonc_edit.proofs.FittingNodes.{over_there}
+use Rattle.jsonc_edit.proofs.FittingNodes.{children_over, over_there}
+use Rattle.jsonc_edit.proofs.LayoutTold.{Each, top_told}
+use Rattle.jsonc_edit.specs.Changes.{top_at}
+use Rattle.jsonc_sound.specs.TreeChanges.{leaves_of}
+use Rattle.jsonc_edit.proofs.lemmas.multiline.RowsTold.{row_told}
 use Rattle.jsonc_edit.proofs.Standing.{standing}
 use Rattle.jsonc_edit.proofs.Uniqueness.{over_at}
-use Rattle.jsonc_edit.proofs.lemmas.multiline.BracketedRows.{bracketed_row, in_row, inner_there, row_stays, row_taken, BracketedRow}
-use Rattle.jsonc_edit.proofs.lemmas.multiline.FilledRows.{AllFit}
-use Rattle.jsonc_edit.proofs.lemmas.multiline.OnLines.{on_lines_fit, row_newline, row_on_lines, row_reflows, standing_newline}
+use Rattle.jsonc_edit.proofs.lemmas.multiline.BracketedRows.{bracketed_row, in_row, inner_all, inner_there, row_stays, row_taken, BracketedRow}
+use Rattle.jsonc_edit.proofs.lemmas.multiline.FilledRows.{AllFit, AllHold}
+use Rattle.jsonc_edit.proofs.lemmas.multiline.OnLines.{on_lines_fit, on_lines_hold, row_newline, row_on_lines, row_reflows, standing_newline}
 
 pub or_nothing : (a b : Bool) → b ≡ false → (a || (b || false)) ≡ a
 or_nothing true b e = refl
@@ -100,4 +104,15 @@ module _ (o : Options) (old new : List Node) (path : List ℕ) (c : ℕ) (tree :
       elim (cases_Bool (has_line_end old c)) [
         | inl had ↦ subst (λ ns. SpreadAt path (ordered_tree old 0) (ordered_tree ns 0)) (sym (made.was had)) (unchanged had)
         | inr lacked ↦ spread_out lacked (made.is (ap not lacked))
+      ]
+
+  -- and what holds of all leaves holds then, if it holds of the ends of lines and indents that come
+  pub spread_told : (Q : Content → Type 0) → Each Q (leaves (ordered_tree old 0)) → Q (newline lines.newline) → Q (whitespace lines.inner) → Q (whitespace lines.outer) → MadeMultiline old new c → Each Q (leaves (ordered_tree new 0))
+  spread_told Q all line inner outer made =
+      let P : ℕ → Type 0 = λ n. Each Q (leaves_of (top_at old n)) in
+      let kids_told : All P (children_at old c) = λ k d h. top_told Q old tree all _ (children_over old tree c over k d h) in
+      let hold : AllHold P (λ content. Each Q (own_leaf content)) slots = on_lines_hold lines old P (λ content. Each Q (own_leaf content)) (line, tt) (inner, tt) (outer, tt) (between kids) (subst (All P) (sym (in_row old tree c there b)) (inner_all old tree c there b P kids_told)) in
+      elim (cases_Bool (has_line_end old c)) [
+        | inl had ↦ subst (λ (ns : List Node). Each Q (leaves (ordered_tree ns 0))) (sym (made.was had)) all
+        | inr lacked ↦ row_told Q old tree c there b new path at (made.is (ap not lacked)) slots_fit hold all
       ]

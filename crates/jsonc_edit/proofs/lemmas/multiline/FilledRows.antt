@@ -1,7 +1,7 @@
 -- Nodes that fill the places of a row, and what they stand for.
 use Rattle.std.proofs.Common.{◌≡◌, ◌∙◌, ℕ, ◌<◌, false, List, [], ◌∷◌, ◌++◌, All, length, refl, ap, subst, arith}
 use Rattle.std.proofs.lemmas.List.Elements.{All-cons, All-nil}
-use Rattle.jsonc_tree.specs.Content.{is_container}
+use Rattle.jsonc_tree.specs.Content.{Content, is_container}
 use Rattle.jsonc_tree.specs.OrderedTree.{more, none, Shows}
 use Rattle.jsonc_tree.specs.Tree.{Node, content_at, IsTree}
 use Rattle.jsonc_edit.specs.Changes.{row_below}
@@ -10,18 +10,29 @@ use Rattle.jsonc_edit.specs.multiline.Slots.{Slot, stays, comes, AreFilled, no_m
 use Rattle.jsonc_edit.proofs.NodesKept.{row_kept}
 use Rattle.jsonc_edit.proofs.Standing.{bare_below, shows_standing, standing}
 
+module _ (P : ℕ → Type 0) (C : Content → Type 0) where
+  -- of a child that stays the one holds, and of a leaf that comes the other
+  abbrev pub Holds : Slot → Type 0
+  Holds (stays n) = P n
+  Holds (comes content) = C content
+
+  abbrev pub AllHold : List Slot → Type 0
+  AllHold [] = Unit {0}
+  AllHold (slot ∷ rest) = Holds slot × AllHold rest
+
+  pub hold_then : (first second : List Slot) → AllHold first → AllHold second → AllHold (first ++ second)
+  hold_then [] second a b = b
+  hold_then (slot ∷ first) second a b = (a.0, hold_then first second a.1 b)
+
 -- a child that is there, or a leaf
-abbrev pub Fits : List Node → Slot → Type 0
-Fits ns (stays n) = n < length ns
-Fits ns (comes content) = is_container content ≡ false
+abbrev pub IsLeaf : Content → Type 0
+IsLeaf content = is_container content ≡ false
 
 abbrev pub AllFit : List Node → List Slot → Type 0
-AllFit ns [] = Unit {0}
-AllFit ns (slot ∷ rest) = Fits ns slot × AllFit ns rest
+AllFit ns slots = AllHold (λ n. n < length ns) IsLeaf slots
 
 pub fit_then : (ns : List Node) (first second : List Slot) → AllFit ns first → AllFit ns second → AllFit ns (first ++ second)
-fit_then ns [] second a b = b
-fit_then ns (slot ∷ first) second a b = (a.0, fit_then ns first second a.1 b)
+fit_then ns first second a b = hold_then (λ n. n < length ns) IsLeaf first second a b
 
 module _ (old ready : List Node) (tree : IsTree old) (p : Extends old ready) where
   pub filled_stands : {slots : List Slot} {row : List ℕ} → AreFilled old ready slots row → AllFit old slots → standing ready row ≡ row_in old slots

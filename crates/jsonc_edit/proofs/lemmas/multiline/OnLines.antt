@@ -4,7 +4,7 @@ use Rattle.std.specs.List.{flat_map, list_any, suffix_len}
 use Rattle.std.proofs.lemmas.List.{take-append-drop}
 use Rattle.std.proofs.lemmas.List.Elements.{All-from_get_or, All-head, All-tail, All-take}
 use Rattle.jsonc_text.proofs.Basics.{or_right}
-use Rattle.jsonc_tree.specs.Content.{Content, newline}
+use Rattle.jsonc_tree.specs.Content.{Content, newline, whitespace}
 use Rattle.jsonc_tree.specs.OrderedTree.{OrderedTree, none, more}
 use Rattle.jsonc_tree.specs.Tree.{Node, content_at, IsTree}
 use Rattle.jsonc_tree.specs.declared.node.CstNewlineKind.{CstNewlineKind}
@@ -18,7 +18,7 @@ use Rattle.jsonc_edit.specs.multiline.Reflows.{starts_line, has_newline, Spot, b
 use Rattle.jsonc_edit.proofs.lemmas.multiline.RowByNode.{woven, both_woven}
 use Rattle.jsonc_edit.proofs.LeafKinds.{blank_leaf}
 use Rattle.jsonc_edit.proofs.Lists.{suffix_passes}
-use Rattle.jsonc_edit.proofs.lemmas.multiline.FilledRows.{fit_then, AllFit}
+use Rattle.jsonc_edit.proofs.lemmas.multiline.FilledRows.{AllFit, AllHold, IsLeaf, hold_then}
 use Rattle.jsonc_edit.proofs.Standing.{bare_below, standing}
 
 -- the end of a line is in the row where it is among the nodes
@@ -147,28 +147,31 @@ module _ (old : List Node) (tree : IsTree old) (lines : Lines) (inner : IsIndent
       subst (λ (l : List Slot). IsTrue (is_on_lines (Then l))) (sym (both_woven lines old (without_back old row)).0)
       (woven_on_lines true (without_back old row) (none_taken (is_newline_at old) (length row - suffix_len (is_whitespace_at old) row) row lacking))
 
--- a row on several lines is made of children that are there, and leaves
-module _ (lines : Lines) (ns : List Node) where
-  child_fits : (begins blank : Bool) (n : ℕ) → n < length ns → AllFit ns (child_slots lines begins blank n)
-  child_fits true true n h = tt
-  child_fits true false n h = (refl, (refl, (h, tt)))
-  child_fits false blank n h = (h, tt)
+-- a row on several lines is made of children of which this holds, and leaves of which that does
+module _ (lines : Lines) (ns : List Node) (P : ℕ → Type 0) (C : Content → Type 0) (line : C (newline lines.newline)) (inner : C (whitespace lines.inner)) (outer : C (whitespace lines.outer)) where
+  child_holds : (begins blank : Bool) (n : ℕ) → P n → AllHold P C (child_slots lines begins blank n)
+  child_holds true true n h = tt
+  child_holds true false n h = (line, (inner, (h, tt)))
+  child_holds false blank n h = (h, tt)
 
-  woven_fits : (begins : Bool) (row : List ℕ) → All (λ n. n < length ns) row → AllFit ns (woven lines ns begins row)
-  woven_fits begins [] all = tt
-  woven_fits begins (n ∷ row) all =
-      fit_then ns (child_slots lines begins (is_whitespace_at ns n) n) (woven lines ns (begins_behind begins (is_whitespace_at ns n) (is_comma_at ns n)) row) (child_fits begins (is_whitespace_at ns n) n (All-head (λ m. m < length ns) n row all))
-      (woven_fits (begins_behind begins (is_whitespace_at ns n) (is_comma_at ns n)) row (All-tail (λ m. m < length ns) n row all))
+  woven_holds : (begins : Bool) (row : List ℕ) → All P row → AllHold P C (woven lines ns begins row)
+  woven_holds begins [] all = tt
+  woven_holds begins (n ∷ row) all =
+      hold_then P C (child_slots lines begins (is_whitespace_at ns n) n) (woven lines ns (begins_behind begins (is_whitespace_at ns n) (is_comma_at ns n)) row) (child_holds begins (is_whitespace_at ns n) n (All-head P n row all))
+      (woven_holds (begins_behind begins (is_whitespace_at ns n) (is_comma_at ns n)) row (All-tail P n row all))
 
-  last_fits : AllFit ns (last_line lines)
-  last_fits = by lines.outer
+  last_holds : AllHold P C (last_line lines)
+  last_holds = by lines.outer outer
     where
-      by : (s : List ℕ) → AllFit ns (comes (newline lines.newline) ∷ indent_if_any s)
-      by [] = (refl, tt)
-      by (c ∷ s) = (refl, (refl, tt))
+      by : (s : List ℕ) → C (whitespace s) → AllHold P C (comes (newline lines.newline) ∷ indent_if_any s)
+      by [] w = (line, tt)
+      by (c ∷ s) w = (line, (w, tt))
 
-  pub on_lines_fit : (row : List ℕ) → All (λ n. n < length ns) row → AllFit ns (on_lines lines ns row)
-  on_lines_fit row all =
+  pub on_lines_hold : (row : List ℕ) → All P row → AllHold P C (on_lines lines ns row)
+  on_lines_hold row all =
       let front : List ℕ = without_back ns row in
-      let fits : AllFit ns (woven lines ns true front) = woven_fits true front (All-take (λ n. n < length ns) (length row - suffix_len (is_whitespace_at ns) row) row all) in
-      fit_then ns (flat_map (λ part. on_line lines (without_front ns part)) (parts ns front)) (last_line lines) (subst (AllFit ns) (sym (both_woven lines ns front).0) fits) last_fits
+      let holds : AllHold P C (woven lines ns true front) = woven_holds true front (All-take P (length row - suffix_len (is_whitespace_at ns) row) row all) in
+      hold_then P C (flat_map (λ part. on_line lines (without_front ns part)) (parts ns front)) (last_line lines) (subst (AllHold P C) (sym (both_woven lines ns front).0) holds) last_holds
+
+pub on_lines_fit : (lines : Lines) (ns : List Node) (row : List ℕ) → All (λ n. n < length ns) row → AllFit ns (on_lines lines ns row)
+on_lines_fit lines ns row all = on_lines_hold lines ns (λ n. n < length ns) IsLeaf refl refl refl row all

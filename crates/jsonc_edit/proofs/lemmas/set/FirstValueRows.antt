@@ -5,7 +5,7 @@ use Rattle.std.proofs.Math.Seq.{get_or-append_seam}
 use Rattle.jsonc_text.specs.Options.{Options}
 use Rattle.jsonc_text.specs.Plain.{Plain}
 use Rattle.jsonc_tree.specs.Content.{Content}
-use Rattle.jsonc_tree.specs.OrderedTree.{OrderedTree, none, more, followed_by, Shows, shows_none, shows_more, ordered_tree}
+use Rattle.jsonc_tree.specs.OrderedTree.{OrderedTree, none, more, followed_by, Shows, shows_none, shows_more, ordered_tree, Top}
 use Rattle.jsonc_tree.specs.Tree.{Node, content_at, children_at, IsTree}
 use Rattle.jsonc_tree.specs.Values.{is_passed_over}
 use Rattle.jsonc_tree.proofs.OrderedTrees.{Shows-unique}
@@ -13,7 +13,6 @@ use Rattle.jsonc_tree.proofs.Rows.{Shows-append, followed_by-assoc}
 use Rattle.jsonc_layout.specs.nodes.Kinds.{is_element_at}
 use Rattle.jsonc_layout.specs.nodes.Properties.{value_at, value_by}
 use Rattle.jsonc_layout.specs.lines.Breadth.{newline_kind_of}
-use Rattle.jsonc_tree.specs.OrderedTree.{Top}
 use Rattle.jsonc_sound.specs.TriviaChanges.{AreTrivia, leaves_then}
 use Rattle.jsonc_sound.proofs.FirstNodes.{no_element}
 use Rattle.jsonc_sound.specs.Alone as alone
@@ -89,6 +88,17 @@ module _ (o : Options) where
       let known : RootAlone o false (row_below ns 0) = root_alone o (row_below ns 0) (subst (SoundTree o) (sym (document_is ns tree (row_below ns 0) row)) s) in
       trivia_row ns (children_at ns 0) (row_below ns 0) row known (sym (ap (λ w. value_by w ns 0) tree.root_first) ∙ e)
 
+-- Of what the rows below the root are made, before a value has come into it and then: the ends of lines that come with it are of the document's kind.
+pub record FirstParts (old new : List Node) (top : Top) : Type 0 where
+  pub front : List Content
+  pub back : List Content
+  pub leads : Bool
+  pub ends : Bool
+  pub front_trivia : AreTrivia front
+  pub back_trivia : AreTrivia back
+  pub was : row_below old 0 ≡ leaves_then (front ++ back) none
+  pub is : row_below new 0 ≡ leaves_then (front ++ line_end_if leads (newline_kind_of old)) (among [] top [] (leaves_then (line_end_if ends (newline_kind_of old) ++ back) none))
+
 -- A first value, where the root's children are trivia.
 module _ (old new : List Node) (v : Plain) (m : ℕ) (tree : IsTree old) (f : FirstValue old new v m) (quiet : AreTrivia (map (content_at old) (children_at old 0))) where
   abbrev row : List ℕ
@@ -160,6 +170,12 @@ module _ (old new : List Node) (v : Plain) (m : ℕ) (tree : IsTree old) (f : Fi
 
   pub value_has_come : ValueInserted top (row_below old 0) (row_below new 0)
   value_has_come = subst (λ t. ValueInserted top t (row_below new 0)) (sym old_row) (subst (ValueInserted top (leaves_then (front ++ back) none)) (sym new_row) comes)
+
+  pub first_parts : FirstParts old new top
+  first_parts = record { front = front; back = back; leads = leads_in old; ends = leads_out old; front_trivia = quiet_front; back_trivia = quiet_back; was = old_row; is = new_row }
+
+pub parts_of_first : (o : Options) (old new : List Node) (v : Plain) (m : ℕ) → IsTree old → SoundTree o (ordered_tree old 0) → value_at old 0 ≡ None → FirstValue old new v m → FirstParts old new (laid (layout_for old 0 0) v)
+parts_of_first o old new v m tree s e f = first_parts old new v m tree f (root_trivia o old tree s e)
 
 pub comes_among_rows : (o : Options) (old new : List Node) (v : Plain) (m : ℕ) → ComesAmongRows o old new v m
 comes_among_rows o old new v m tree s e f = value_has_come old new v m tree f (root_trivia o old tree s e)

@@ -1,22 +1,28 @@
 -- A value comes into an array at a path of a sound document.
-use Rattle.std.proofs.Common.{◌≡◌, ◌∙◌, ◌<◌, ◌≤◌, ◌-◌, ◌||◌, ℕ, min, Bool, true, false, List, [], ◌∷◌, ◌++◌, None, All, length, take, refl, sym, ap, subst}
+use Rattle.std.proofs.Common.{IsTrue, ◌≡◌, ◌∙◌, ◌<◌, ◌≤◌, ◌-◌, ◌||◌, ℕ, min, Bool, true, false, List, [], ◌∷◌, ◌++◌, None, All, length, take, refl, sym, ap, subst}
 use Rattle.std.specs.List.{list_any}
 use Rattle.std.proofs.lemmas.List.Elements.{All-from_get_or}
 use Rattle.std.proofs.lemmas.List.Folds.{list_any-append}
+use Rattle.jsonc_text.specs.Text.{Many}
+use Rattle.jsonc_tree.specs.declared.node.CstNewlineKind.TheVariants.{LineFeed}
+use Rattle.jsonc_sound.specs.Shape.{IsText, token_then}
+use Rattle.jsonc_edit.proofs.FittingNodes.{children_over}
+use Rattle.jsonc_sound.specs.TreeChanges.{leaves_of, DocumentChanged}
+use Rattle.jsonc_tree.specs.Content.{Content, newline, token, whitespace}
+use Rattle.jsonc_edit.proofs.LayoutTold.{Each, top_told}
+use Rattle.jsonc_insert.proofs.lemmas.elements.Told.{row_filled, own_told, row_back, row_told, stand_told, NodeSo}
 use Rattle.jsonc_text.specs.Options.{Options}
 use Rattle.jsonc_text.specs.Plain.{Plain}
 use Rattle.jsonc_tree.specs.Changes.{EachOnce}
 use Rattle.jsonc_tree.specs.Content as content
-use Rattle.jsonc_tree.specs.OrderedTree.{OrderedTree, none, followed_by, ordered_tree}
+use Rattle.jsonc_tree.specs.OrderedTree.{OrderedTree, none, followed_by, leaves, ordered_tree}
 use Rattle.jsonc_tree.specs.Tree.{Node, children_at, content_at, IsTree, IsOver}
 use Rattle.jsonc_layout.specs.nodes.Kinds.{is_newline, is_newline_at}
-use Rattle.jsonc_sound.specs.Shape.{token_then}
 use Rattle.jsonc_layout.specs.from_input.Laid.{laid}
 use Rattle.jsonc_layout.specs.from_input.Layout.{Layout}
 use Rattle.jsonc_sound.specs.Leaving.{element_count}
 use Rattle.jsonc_sound.specs.Rows.{of_values}
 use Rattle.jsonc_sound.specs.SoundTrees.{SoundTree}
-use Rattle.jsonc_sound.specs.TreeChanges.{DocumentChanged}
 use Rattle.jsonc_edit.specs.Paths.{IsAt}
 use Rattle.jsonc_edit.specs.Writing.{FitsLayout, IsIndent}
 use Rattle.jsonc_edit.specs.multiline.Laws.{bracketed}
@@ -38,7 +44,7 @@ use Rattle.jsonc_insert.specs.elements.Coming.{ElementInserted}
 use Rattle.jsonc_insert.specs.elements.Laws.{ElementInsertedAt, ElementsInsertedAt}
 use Rattle.jsonc_insert.proofs.lemmas.elements.Containers as containers
 use Rattle.jsonc_insert.proofs.lemmas.elements.Blanks as blanks
-use Rattle.jsonc_insert.proofs.lemmas.elements.KeptTrees.{layout_fits, outer_fits}
+use Rattle.jsonc_insert.proofs.lemmas.elements.KeptTrees.{kept_told, layout_fits, layout_so, newline_so, outer_fits}
 use Rattle.jsonc_insert.proofs.lemmas.elements.PlannedRows as filling
 use Rattle.jsonc_insert.proofs.lemmas.elements.PlannedRows.{Filled}
 use Rattle.jsonc_insert.proofs.lemmas.elements.Plans as plans
@@ -200,6 +206,27 @@ module _ (o : Options) (old new : List Node) (path : List ℕ) (c i : ℕ) (v : 
     comes = comes_into;
     changed = changed;
   }
+
+  -- what holds of all leaves, and of those of the value in a layout of such line ends and indents, holds of all leaves then
+  module _ (Q U : Content → Type 0) (all : Each Q (leaves (ordered_tree old 0))) (texts : Each U (leaves (ordered_tree new 0))) (feed : Q (newline LineFeed)) (comma : Q (token 0x2C)) (space : Q (whitespace (0x20 ∷ []))) (p : ℕ → Bool) (passes : IsTrue (p 0x20))
+      (read : (s : List ℕ) → Q (whitespace s) → IsText (Many p) s) (written : (s : List ℕ) → IsText (Many p) s → Q (whitespace s))
+      (laid_so : (l : Layout) → Q (newline l.newline) → IsText (Many p) l.current → IsText (Many p) l.single → Each U (leaves_of (laid l v)) → Each Q (leaves_of (laid l v))) where
+    was_told : All (NodeSo Q old) (trimmed old kids)
+    was_told = trimmed_all (NodeSo Q old) old kids (λ k d h. top_told Q old tree all _ (children_over old tree c over k d h))
+
+    kept_so : Each Q (leaves (ordered_tree kept 0))
+    kept_so = kept_told o of_values old path c tree sound at is old (trimmed old kids) b kept put.made.has (standing old left) kept_stands row_now Q all (stand_told Q old (trimmed old kids) was_told)
+
+    line_so : Q (newline layout.newline)
+    line_so = newline_so o of_values old path c tree sound at is old (trimmed old kids) b kept put.made.has (standing old left) kept_stands row_now Q kept_so feed
+
+    pub element_told : Each Q (leaves (ordered_tree new 0))
+    element_told =
+        let indents = layout_so o of_values old path c tree sound at is old (trimmed old kids) b kept put.made.has (standing old left) kept_stands row_now Q kept_so p passes read in
+        let own = own_told U comes_into (token_then 0x5D none) (row_back U of_values (standing old a.inner) new_row path (ordered_tree old 0) (ordered_tree new 0) changed texts) in
+        row_told Q of_values (standing old a.inner) new_row path (ordered_tree old 0) (ordered_tree new 0) changed (standing ready put.row) row_stands
+        (row_filled Q old ready tree put.prepared layout (outer_indent kept c) plan (laid layout v) m (x ∷ (left ++ y ∷ [])) put.row filled kept_old (subst (All (NodeSo Q old)) kept_is was_told) comma line_so (written _ indents.0) (written _ indents.2) space
+        (laid_so layout line_so indents.0 indents.1 own)) all
 
 pub elements_come_at : (o : Options) (old new : List Node) (path : List ℕ) (c i : ℕ) (v : Plain) (m : ℕ) → ElementsInsertedAt o old new path c i v m
 elements_come_at o old new path c i v m tree sound at is put = comes_at o old new path c i v m tree sound at is put

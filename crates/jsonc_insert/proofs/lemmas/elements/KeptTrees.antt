@@ -1,12 +1,18 @@
 -- What a document tells of what comes into a container, once it has the row that this comes into, fits its options.
-use Rattle.std.proofs.Common.{◌≡◌, ◌≢◌, ◌∙◌, ◌<◌, ◌≤◌, ◌⊎◌, inl, inr, ℕ, false, List, [], ◌∷◌, length, get_or, slice_get, slice_index, Option, Some, None, IfSome, refl, sym, ap, subst, arith, rules}
+use Rattle.std.proofs.Common.{Bool, IsTrue, ◌≡◌, ◌≢◌, ◌∙◌, ◌<◌, ◌≤◌, ◌⊎◌, inl, inr, ℕ, false, List, [], ◌∷◌, length, get_or, slice_get, slice_index, Option, Some, None, IfSome, refl, sym, ap, subst, arith, rules}
 use Rattle.std.proofs.lemmas.List.Elements.{All-filter}
 use Rattle.std.proofs.lemmas.Option.{slice_get_cases}
 use Rattle.std.proofs.lemmas.Str.{IsUtf8-from_ascii, chars-IsAscii}
+use Rattle.jsonc_tree.specs.Content.{Content, newline, whitespace}
+use Rattle.jsonc_tree.specs.declared.node.CstNewlineKind.TheVariants.{LineFeed}
+use Rattle.jsonc_layout.specs.lines.Breadth.{newline_kind_at}
+use Rattle.jsonc_edit.proofs.IndentsTold as joined
+use Rattle.jsonc_edit.proofs.LayoutTold.{Each, indents_told, newline_told}
+use Rattle.jsonc_insert.proofs.lemmas.elements.Told.{row_told}
 use Rattle.jsonc_text.specs.Options.{Options}
 use Rattle.jsonc_text.specs.Text.{Many, stop, step}
 use Rattle.jsonc_tree.specs.Changes.{CanJoin, Splices}
-use Rattle.jsonc_tree.specs.OrderedTree.{OrderedTree, none, followed_by, ordered_tree}
+use Rattle.jsonc_tree.specs.OrderedTree.{OrderedTree, none, followed_by, leaves, ordered_tree}
 use Rattle.jsonc_tree.specs.Tree.{Node, children_at, content_at, is_in, parent_at, IsTree, IsOver}
 use Rattle.jsonc_tree.proofs.RowSteps.{RowBecomes}
 use Rattle.jsonc_tree.proofs.Splicing.{out_from}
@@ -14,7 +20,7 @@ use Rattle.jsonc_layout.specs.nodes.Kinds.{is_element_at}
 use Rattle.jsonc_layout.specs.lines.Indents.{IndentTexts, indents_at}
 use Rattle.jsonc_sound.specs.Leaves.{is_inner_blank}
 use Rattle.jsonc_sound.specs.Rows.{RowKind, closing, holder, opening}
-use Rattle.jsonc_sound.specs.Shape.{token_then, DocumentShaped}
+use Rattle.jsonc_sound.specs.Shape.{token_then, DocumentShaped, IsText}
 use Rattle.jsonc_sound.specs.SoundTrees.{SoundTree}
 use Rattle.jsonc_sound.specs.TreeChanges.{DocumentChanged}
 use Rattle.jsonc_edit.specs.Paths.{IsAt}
@@ -45,8 +51,8 @@ two_spaces =
 abbrev AreIndents : IndentTexts → Type 0
 AreIndents texts = IsIndent texts.current × IsIndent texts.single
 
--- in a sound document
-module _ (o : Options) (ns : List Node) (tree : IsTree ns) (shaped : DocumentShaped o (ordered_tree ns 0)) (c : ℕ) (over : IsOver ns 0 c) where
+-- in a document
+module _ (ns : List Node) (tree : IsTree ns) (c : ℕ) (over : IsOver ns 0 c) where
   abbrev row : List ℕ
   row = children_at ns c
 
@@ -57,8 +63,19 @@ module _ (o : Options) (ns : List Node) (tree : IsTree ns) (shaped : DocumentSha
       by (inl (m, lt, f, g)) = subst (λ w. IfSome w (IsOver ns 0)) (sym f) (subst (IsOver ns 0) g (All-filter (is_element_at ns) (IsOver ns 0) row (children_over ns tree c over) 0 m lt))
       by (inr (ge, f)) = subst (λ w. IfSome w (IsOver ns 0)) (sym f) tt
 
+  -- whose leaves are so
+  module _ (Q : Content → Type 0) (all : Each Q (leaves (ordered_tree ns 0))) (p : ℕ → Bool) (space : IsTrue (p 0x20)) (texts : (s : List ℕ) → Q (whitespace s) → IsText (Many p) s) where
+    inside_so : IsText (Many p) (indents_inside ns c).current × IsText (Many p) (indents_inside ns c).single
+    inside_so = by (slice_get (elements ns row) 0) first_over
+      where
+        by : (w : Option ℕ) → IfSome w (IsOver ns 0) → IsText (Many p) (indents_by ns c w).current × IsText (Many p) (indents_by ns c w).single
+        by None h = let i = indents_told Q ns tree all p space texts c over in (joined.indent_joined p space (indents_at ns c).current (indents_at ns c).single i.0 i.1, i.1)
+        by (Some n) h = indents_told Q ns tree all p space texts n h
+
+-- in a sound document
+module _ (o : Options) (ns : List Node) (tree : IsTree ns) (shaped : DocumentShaped o (ordered_tree ns 0)) (c : ℕ) (over : IsOver ns 0 c) where
   inside_fit : AreIndents (indents_inside ns c)
-  inside_fit = by (slice_get (elements ns row) 0) first_over
+  inside_fit = by (slice_get (elements ns (children_at ns c)) 0) (first_over ns tree c over)
     where
       by : (w : Option ℕ) → IfSome w (IsOver ns 0) → AreIndents (indents_by ns c w)
       by None h = let i = indents_fit ns tree o shaped c over in (indent_joined (indents_at ns c).current (indents_at ns c).single i.0 i.1, i.1)
@@ -125,3 +142,15 @@ module _ (o : Options) (kind : RowKind) (old : List Node) (path : List ℕ) (c :
 
   pub outer_fits : IsIndent (outer_indent kept c)
   outer_fits = outer_told o kept has.tree sound_kept.shaped c over_kept
+
+  -- what holds of all leaves holds of those of that document
+  pub kept_told : (Q : Content → Type 0) → Each Q (leaves (ordered_tree old 0)) → Each Q (leaves (standing lined was)) → Each Q (leaves (ordered_tree kept 0))
+  kept_told Q all told = row_told Q kind (standing old a.inner) row path (ordered_tree old 0) (ordered_tree kept 0) changed (standing lined was) stands told all
+
+  -- and so of what it tells
+  module _ (Q : Content → Type 0) (all_kept : Each Q (leaves (ordered_tree kept 0))) where
+    pub newline_so : Q (newline LineFeed) → Q (newline (newline_kind_at kept c))
+    newline_so feed = newline_told Q kept has.tree all_kept feed c
+
+    pub layout_so : (p : ℕ → Bool) → IsTrue (p 0x20) → ((s : List ℕ) → Q (whitespace s) → IsText (Many p) s) → IsText (Many p) (layout_inside kept c).current × IsText (Many p) (layout_inside kept c).single × IsText (Many p) (outer_indent kept c)
+    layout_so p space texts = let i = inside_so kept has.tree c over_kept Q all_kept p space texts in (i.0, i.1, (indents_told Q kept has.tree all_kept p space texts c over_kept).0)

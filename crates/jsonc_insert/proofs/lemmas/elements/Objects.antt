@@ -1,26 +1,33 @@
 -- A property comes into an object at a path of a sound document: from the nodes to the row of trees.
-use Rattle.std.proofs.Common.{◌≡◌, ◌∙◌, ◌<◌, ◌≤◌, ◌-◌, ℕ, min, true, List, [], ◌∷◌, ◌++◌, Some, All, length, take, refl, sym, ap, subst}
+use Rattle.std.proofs.Common.{Bool, IsTrue, ◌≡◌, ◌∙◌, ◌<◌, ◌≤◌, ◌-◌, ℕ, min, true, List, [], ◌∷◌, ◌++◌, Some, All, length, take, refl, sym, ap, subst}
+use Rattle.jsonc_text.specs.Text.{Many}
+use Rattle.jsonc_tree.specs.declared.node.CstNewlineKind.TheVariants.{LineFeed}
+use Rattle.jsonc_sound.specs.Shape.{IsText, token_then}
+use Rattle.jsonc_edit.proofs.FittingNodes.{children_over}
+use Rattle.jsonc_sound.specs.TreeChanges.{leaves_of, DocumentChanged}
+use Rattle.jsonc_layout.specs.lines.Indents.{indents_at}
+use Rattle.jsonc_edit.proofs.IndentsTold as joined
+use Rattle.jsonc_edit.proofs.LayoutTold.{Each, indents_told, newline_told, top_told}
+use Rattle.jsonc_insert.proofs.lemmas.elements.Told.{fill_told, row_filled, own_told, row_back, row_told, stand_told, NodeSo}
 use Rattle.jsonc_text.specs.Options.{Options}
 use Rattle.jsonc_text.specs.Plain.{Plain}
 use Rattle.jsonc_tree.specs.Changes.{EachOnce}
-use Rattle.jsonc_tree.specs.Content.{object, token}
-use Rattle.jsonc_tree.specs.OrderedTree.{OrderedTree, none, followed_by, ordered_tree}
+use Rattle.jsonc_tree.specs.Content.{Content, newline, object, token, whitespace}
+use Rattle.jsonc_tree.specs.OrderedTree.{OrderedTree, none, followed_by, leaves, ordered_tree, own_leaf}
 use Rattle.jsonc_tree.specs.Tree.{Node, children_at, content_at, IsTree, IsOver}
-use Rattle.jsonc_sound.specs.Shape.{token_then}
 use Rattle.jsonc_layout.specs.from_input.Laid.{laid_property}
 use Rattle.jsonc_layout.specs.from_input.Layout.{Layout}
 use Rattle.jsonc_sound.specs.Leaving.{element_count}
 use Rattle.jsonc_sound.specs.Rows.{of_properties, opening, closing}
 use Rattle.jsonc_sound.specs.SoundTrees.{SoundTree}
-use Rattle.jsonc_sound.specs.TreeChanges.{DocumentChanged}
 use Rattle.jsonc_edit.specs.Paths.{IsAt}
 use Rattle.jsonc_edit.specs.Writing.{FitsLayout, IsIndent}
 use Rattle.jsonc_edit.specs.multiline.Laws.{bracketed}
 use Rattle.jsonc_edit.specs.multiline.Reflows.{SpreadsOut}
-use Rattle.jsonc_edit.specs.multiline.Slots.{Slot, row_in}
+use Rattle.jsonc_edit.specs.multiline.Slots.{Slot, row_in, stays}
 use Rattle.jsonc_edit.proofs.Standing.{brackets_stand, standing}
 use Rattle.jsonc_edit.proofs.lemmas.multiline.BracketedRows.{last_there, open_there, row_given, BracketedRow}
-use Rattle.jsonc_edit.proofs.lemmas.multiline.FilledRows.{filled_stands, filled_there, AllFit}
+use Rattle.jsonc_edit.proofs.lemmas.multiline.FilledRows.{filled_stands, filled_there, AllFit, AllHold}
 use Rattle.jsonc_insert.specs.Inserted.{plan_of, put_by}
 use Rattle.jsonc_insert.specs.Planned.{elements, has_brackets, planned}
 use Rattle.jsonc_insert.specs.Settings.{layout_inside, outer_indent}
@@ -202,6 +209,36 @@ module _ (o : Options) (old new : List Node) (path : List ℕ) (c i : ℕ) (name
     comes = comes_into;
     changed = changed;
   }
+
+  -- what holds of all leaves, and of those of the property in a layout of such line ends and indents, holds of all leaves then
+  module _ (Q U : Content → Type 0) (all : Each Q (leaves (ordered_tree old 0))) (texts : Each U (leaves (ordered_tree new 0))) (feed : Q (newline LineFeed)) (comma : Q (token 0x2C)) (space : Q (whitespace (0x20 ∷ []))) (p : ℕ → Bool) (passes : IsTrue (p 0x20))
+      (read : (s : List ℕ) → Q (whitespace s) → IsText (Many p) s) (written : (s : List ℕ) → IsText (Many p) s → Q (whitespace s))
+      (laid_so : (l : Layout) → Q (newline l.newline) → IsText (Many p) l.current → IsText (Many p) l.single → Each U (leaves_of (laid_property l name v)) → Each Q (leaves_of (laid_property l name v))) where
+    lines_told : All (NodeSo Q f.lined) f.before.lines
+    lines_told =
+        let indents = indents_told Q old tree all p passes read c over in
+        let hold : AllHold (NodeSo Q old) (λ content. Each Q (own_leaf content)) (stays x ∷ (inside ++ stays y ∷ [])) =
+        opened.opened_hold o of_properties old c tree sound.shaped over a (NodeSo Q old) (λ content. Each Q (own_leaf content)) (newline_told Q old tree all feed c, tt)
+        (written _ (joined.indent_joined p passes (indents_at old c).current (indents_at old c).single indents.0 indents.1), tt) (written _ indents.0, tt) (λ k d h. top_told Q old tree all _ (children_over old tree c over k d h)) in
+        let same = sym (opened.opened_is o of_properties old c tree sound.shaped over a) in
+        fill_told Q old f.lined tree f.before.opens.prepared f.before.opens.filled (subst (AllFit old) same (opened.opened_fit o of_properties old c tree sound.shaped over a)) (subst (AllHold (NodeSo Q old) (λ content. Each Q (own_leaf content))) same hold)
+
+    was_told : All (NodeSo Q f.lined) f.was
+    was_told = subst (All (NodeSo Q f.lined)) (sym f.before.is) (trimmed_all (NodeSo Q f.lined) f.lined f.before.lines lines_told)
+
+    kept_so : Each Q (leaves (ordered_tree kept 0))
+    kept_so = kept_trees.kept_told o of_properties old path c tree sound at is f.lined f.was b kept f.made.has (standing f.lined left) kept_stands row_now Q all (stand_told Q f.lined f.was was_told)
+
+    line_so : Q (newline layout.newline)
+    line_so = kept_trees.newline_so o of_properties old path c tree sound at is f.lined f.was b kept f.made.has (standing f.lined left) kept_stands row_now Q kept_so feed
+
+    pub property_told : Each Q (leaves (ordered_tree new 0))
+    property_told =
+        let indents = kept_trees.layout_so o of_properties old path c tree sound at is f.lined f.was b kept f.made.has (standing f.lined left) kept_stands row_now Q kept_so p passes read in
+        let own = own_told U comes_into (token_then (closing of_properties) none) (row_back U of_properties (standing old a.inner) new_row path (ordered_tree old 0) (ordered_tree new 0) changed texts) in
+        row_told Q of_properties (standing old a.inner) new_row path (ordered_tree old 0) (ordered_tree new 0) changed (standing f.ready f.row) row_stands
+        (row_filled Q f.lined f.ready f.before.opens.prepared.tree f.prepared layout outer plan (laid_property layout name v) m (x ∷ (left ++ y ∷ [])) f.row filled kept_there (subst (All (NodeSo Q f.lined)) was_is was_told) comma line_so (written _ indents.0) (written _ indents.2) space
+        (laid_so layout line_so indents.0 indents.1 own)) all
 
 pub fits_as_told : (o : Options) (old new : List Node) (path : List ℕ) (c i : ℕ) (name : List ℕ) (v : Plain) (m : ℕ) → FitsAsTold o old new path c i name v m
 fits_as_told o old new path c i name v m tree sound at is e = (fits_layout o old new path c i name v m tree sound at is e, outer_fits o old new path c i name v m tree sound at is e)

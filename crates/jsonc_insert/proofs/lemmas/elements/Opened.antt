@@ -3,6 +3,8 @@ use Rattle.std.proofs.Common.{◌≡◌, ◌∙◌, ◌<◌, ◌+◌, ◌-◌, �
 use Rattle.std.specs.List.{flat_map, list_any}
 use Rattle.std.proofs.lemmas.List.{get_or-append-add, map-append}
 use Rattle.std.proofs.lemmas.List.Elements.{All-head, All-tail}
+use Rattle.jsonc_tree.specs.Content.{Content, newline, whitespace}
+use Rattle.jsonc_edit.proofs.Lists.{all_rest}
 use Rattle.jsonc_text.specs.Options.{Options}
 use Rattle.jsonc_tree.specs.OrderedTree.{OrderedTree, more, ordered_tree}
 use Rattle.jsonc_tree.specs.Tree.{Node, children_at, content_at, IsTree, IsOver}
@@ -18,9 +20,9 @@ use Rattle.jsonc_edit.specs.multiline.Multiline.{has_line_end}
 use Rattle.jsonc_edit.specs.multiline.Reflows.{has_newline, Reflows, ended, kept, gone, line, line_end, SpreadsOut, reflows}
 use Rattle.jsonc_edit.specs.multiline.Slots.{Slot, stays, comes, AreFilled, no_more, stayed, came, row_in}
 use Rattle.jsonc_edit.proofs.FittingNodes.{over_there}
-use Rattle.jsonc_edit.proofs.lemmas.multiline.BracketedRows.{in_row, inner_there, last_there, open_there, BracketedRow}
-use Rattle.jsonc_edit.proofs.lemmas.multiline.FilledRows.{fit_then, AllFit}
-use Rattle.jsonc_edit.proofs.lemmas.multiline.OnLines.{on_lines_fit, row_newline, row_reflows, standing_newline}
+use Rattle.jsonc_edit.proofs.lemmas.multiline.BracketedRows.{in_row, inner_all, inner_there, last_there, open_there, BracketedRow}
+use Rattle.jsonc_edit.proofs.lemmas.multiline.FilledRows.{fit_then, hold_then, AllFit, AllHold}
+use Rattle.jsonc_edit.proofs.lemmas.multiline.OnLines.{on_lines_fit, on_lines_hold, row_newline, row_reflows, standing_newline}
 use Rattle.jsonc_edit.proofs.lemmas.multiline.Documents.{inner_ends}
 use Rattle.jsonc_edit.proofs.Standing.{standing}
 use Rattle.jsonc_insert.specs.members.Opened.{enclosed, opened}
@@ -29,6 +31,10 @@ use Rattle.jsonc_insert.specs.members.Opened.{enclosed, opened}
 pub stays_row : (ns : List Node) (xs : List ℕ) → row_in ns (map stays xs) ≡ standing ns xs
 stays_row ns [] = refl
 stays_row ns (n ∷ xs) = ap (more (content_at ns n) (row_below ns n)) (stays_row ns xs)
+
+pub stays_hold : (P : ℕ → Type 0) (C : Content → Type 0) (xs : List ℕ) → All P xs → AllHold P C (map stays xs)
+stays_hold P C [] all = tt
+stays_hold P C (n ∷ xs) all = (All-head P n xs all, stays_hold P C xs (All-tail P n xs all))
 
 pub stays_fit : (ns : List Node) (xs : List ℕ) → All (λ n. n < length ns) xs → AllFit ns (map stays xs)
 stays_fit ns [] all = tt
@@ -121,6 +127,21 @@ module _ (o : Options) (kind : RowKind) (old : List Node) (c : ℕ) (tree : IsTr
 
   pub opened_fit : AllFit old (stays x ∷ (inside ++ stays y ∷ []))
   opened_fit = (open_there old tree c there a, fit_then old inside (stays y ∷ []) inside_fit (last_there old tree c there a, tt))
+
+  -- such children, and such leaves that come
+  module _ (P : ℕ → Type 0) (C : Content → Type 0) (begins : C (newline (lines_for old c).newline)) (deep : C (whitespace (lines_for old c).inner)) (outer : C (whitespace (lines_for old c).outer)) (all : All P kids) where
+    inside_hold : AllHold P C inside
+    unfolding inside inside_by
+    inside_hold = by (has_line_end old c)
+      where
+        by : (b : Bool) → AllHold P C (inside_by b)
+        by true = stays_hold P C a.inner (inner_all old tree c there a P all)
+        by false = on_lines_hold (lines_for old c) old P C begins deep outer (between kids) (subst (All P) (sym row_between) (inner_all old tree c there a P all))
+
+    pub opened_hold : AllHold P C (stays x ∷ (inside ++ stays y ∷ []))
+    opened_hold =
+        let whole : All P (x ∷ (a.inner ++ y ∷ [])) = subst (All P) a.children all in
+        (All-head P x (a.inner ++ y ∷ []) whole, hold_then P C inside (stays y ∷ []) inside_hold (All-head P y [] (all_rest P a.inner (y ∷ []) (All-tail P x (a.inner ++ y ∷ []) whole)), tt))
 
   line_ends : has_newline (standing old a.inner) ≡ has_line_end old c
   line_ends = standing_newline old a.inner ∙ sym (ap (list_any (is_newline_at old)) a.children ∙ inner_ends old x y _ _ a.inner a.opens a.closes)

@@ -78,6 +78,11 @@ value_gives_way old new path n m v tree at r =
       seams = gives_way_with_seams old new n m top tree r.2 path at;
     }
 
+-- laid out as the document told where that one stood
+pub layout_given : (old new : List Node) (path : List ℕ) (n m : ℕ) (v : Plain) (tree : IsTree old) (at : IsAt old path n) (r : IsReplaced old new n v m) → (value_gives_way old new path n m v tree at r).layout ≡ layout_for old r.0 n
+unfolding value_gives_way
+layout_given old new path n m v tree at r = refl
+
 -- one of another shape than the value that has taken its place
 pub other_gives_way : (old new : List Node) (path : List ℕ) (n m : ℕ) (shape : Shape) → IsTree old → IsAt old path n → IsReplaced old new n (empty_of shape) m → is_of shape (content_at old n) ≡ false
     → (given : ReplacesValue path (empty_of shape) (ordered_tree old 0) (ordered_tree new 0)) × (is_of shape given.was.content ≡ false)

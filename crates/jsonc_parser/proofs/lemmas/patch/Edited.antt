@@ -43,7 +43,7 @@ use Rattle.jsonc_parser.specs.patch.Operations.{as_whole, in_member, Adds}
 use Rattle.jsonc_parser.specs.patch.MadeBy as by
 use Rattle.jsonc_parser.specs.patch.References.{IsIndex, Refers, RefersTo}
 use Rattle.jsonc_parser.proofs.lemmas.paths.EditOutcome.{whole_no_commas}
-use Rattle.jsonc_parser.proofs.lemmas.patch.Made.{led, makes_so, options_so, root_options, root_set}
+use Rattle.jsonc_parser.proofs.lemmas.patch.Made.{led, does_so, options_so, root_options, root_set}
 use Rattle.jsonc_parser.proofs.lemmas.patch.Nodes.{array_value, its, there}
 use Rattle.jsonc_parser.proofs.lemmas.patch.Operating.{element_added, last_item, last_member, member_added, removed, replaced, same_array, stands, was_referred}
 
@@ -57,7 +57,7 @@ module _ {A : Type 0} (old new : CstRootNode A) (tree : IsTree (nodes_of old)) (
         let edit : Edit A = Remove path in
         let l = led edit (nodes_of old) (nodes_of new) tree after made d shown tt in
         let w = referred d shown in
-        (l.e, l.shown, record { edits = edit ∷ []; own = by.removes (stands d (nodes_of old) tokens leads.0 w.0 path.items w.1); edited = l.edited; within = l.within; options = options_so d l.e l.op (texts.remove path.items) l.asks l.options; made = removed d (nodes_of old) tokens leads.0 w.0 path.items w.1 l.e.value (makes_so d l.e l.op (texts.remove path.items) l.asks l.makes).1 })
+        (l.e, l.shown, record { edits = edit ∷ []; own = by.removes (stands d (nodes_of old) tokens leads.0 w.0 path.items w.1); edited = l.edited; within = l.within; options = options_so d l.e l.op (texts.remove path.items) l.asks.1 l.options; made = removed d (nodes_of old) tokens leads.0 w.0 path.items w.1 l.e.value (does_so d l.e l.op (texts.remove path.items) l.asks.1 l.makes).1 })
 
     module _ (v : CstInputValue A) where
       pub replaces_so : IsEditDone old (Replace path v) new → MakesWhatShown old (value.replace tokens (plain v)) (λ o. IsOfNumbers o (plain v)) new
@@ -65,8 +65,8 @@ module _ {A : Type 0} (old new : CstRootNode A) (tree : IsTree (nodes_of old)) (
           let edit : Edit A = Replace path v in
           let l = led edit (nodes_of old) (nodes_of new) tree after made d shown fit in
           let w = referred d shown in
-          let m = makes_so d l.e l.op (texts.replace path.items (plain v)) l.asks l.makes in
-          (l.e, l.shown, record { edits = edit ∷ []; own = by.replaces (stands d (nodes_of old) tokens leads.0 w.0 path.items w.1); edited = l.edited; within = l.within; options = options_so d l.e l.op (texts.replace path.items (plain v)) l.asks l.options; made = replaced d (nodes_of old) tokens leads.0 w.0 path.items w.1 m.0 (plain v) l.e.value m.1.1 })
+          let m = does_so d l.e l.op (texts.replace path.items (plain v)) l.asks.1 l.makes in
+          (l.e, l.shown, record { edits = edit ∷ []; own = by.replaces (stands d (nodes_of old) tokens leads.0 w.0 path.items w.1); edited = l.edited; within = l.within; options = options_so d l.e l.op (texts.replace path.items (plain v)) l.asks.1 l.options; made = replaced d (nodes_of old) tokens leads.0 w.0 path.items w.1 m.0 (plain v) l.e.value m.1.1 })
 
       -- an element is inserted
       module _ (token : List ℕ) where
@@ -76,7 +76,7 @@ module _ {A : Type 0} (old new : CstRootNode A) (tree : IsTree (nodes_of old)) (
             let l = led edit (nodes_of old) (nodes_of new) tree after made d shown fit in
             let w = referred d shown in
             let op : Operation = texts.insert an_array path.items l.asks.1 (entry [] (plain v)) in
-            let m = makes_so d l.e l.op op l.asks.4 l.makes in
+            let m = does_so d l.e l.op op l.asks.4 l.makes in
             let front : List Named = m.0 in
             let back : List Named = m.1 in
             let was = was_referred d (nodes_of old) tokens leads.0 w.0 path.items w.1 (of an_array (front ++ back)) (of an_array (front ++ entry [] (plain v) ∷ back)) l.e.value m.3.0 in
@@ -93,7 +93,7 @@ module _ {A : Type 0} (old new : CstRootNode A) (tree : IsTree (nodes_of old)) (
             let l = led edit ns (nodes_of new) tree after made d shown fit in
             let w = referred d shown in
             let op : Operation = texts.insert an_array path.items index (entry [] (plain v)) in
-            let m = makes_so d l.e l.op op l.asks l.makes in
+            let m = does_so d l.e l.op op l.asks.1 l.makes in
             let front : List Named = m.0 in
             let back : List Named = m.1 in
             let items = array_value d.options (content_at ns leads.0) (row_below ns leads.0) w.0.v kind w.0.has in
@@ -104,7 +104,7 @@ module _ {A : Type 0} (old new : CstRootNode A) (tree : IsTree (nodes_of old)) (
             let bound : length front ≡ min index (length (front ++ back)) = m.2 in
             let place : index ≡ length front = omega (arith, bound, all, within) in
             let holder : value.RefersAlong d.value tokens path.items (array (entries.items (front ++ back))) = subst (value.RefersAlong d.value tokens path.items) was (stands d ns tokens leads.0 w.0 path.items w.1) in
-            (l.e, l.shown, record { edits = edit ∷ []; own = by.adds (by.at_index holder is); edited = l.edited; within = l.within; options = options_so d l.e l.op op l.asks l.options; made = element_added d ns tokens leads.0 w.0 path.items w.1 (plain v) l.e.value token front back m.3.0 (inl (subst (IsIndex token) place is)) })
+            (l.e, l.shown, record { edits = edit ∷ []; own = by.adds (by.at_index holder is); edited = l.edited; within = l.within; options = options_so d l.e l.op op l.asks.1 l.options; made = element_added d ns tokens leads.0 w.0 path.items w.1 (plain v) l.e.value token front back m.3.0 (inl (subst (IsIndex token) place is)) })
 
       -- a member is inserted
       pub member_so : (name : String A) → IsOfShown old (λ d. RefersToNothing d (tokens ++ chars_of name ∷ [])) → IsEditDone old (AppendProperty path name v) new
@@ -114,7 +114,7 @@ module _ {A : Type 0} (old new : CstRootNode A) (tree : IsTree (nodes_of old)) (
           let l = led edit (nodes_of old) (nodes_of new) tree after made d shown fit in
           let w = referred d shown in
           let op : Operation = texts.insert an_object path.items l.asks.1 (entry (chars_of name) (plain v)) in
-          let m = makes_so d l.e l.op op l.asks.4 l.makes in
+          let m = does_so d l.e l.op op l.asks.4 l.makes in
           let front : List Named = m.0 in
           let back : List Named = m.1 in
           let was = was_referred d (nodes_of old) tokens leads.0 w.0 path.items w.1 (of an_object (front ++ back)) (of an_object (front ++ entry (chars_of name) (plain v) ∷ back)) l.e.value m.3.0 in
@@ -135,12 +135,12 @@ module _ {A : Type 0} (old new : CstRootNode A) (tree : IsTree (nodes_of old)) (
       let ms = its d ns tree shown tokens n c name kind in
       let object_so : c.v ≡ of an_object (list_of_members ms.0) = ms.1 ∙ ap object (sym (same_members ms.0)) in
       let op : Operation = texts.replace path.items (plain v) in
-      let m = makes_so d l.e l.op op l.asks l.makes in
+      let m = does_so d l.e l.op op l.asks.1 l.makes in
       let was : w.0.v ≡ m.0 = was_referred d ns (tokens ++ name ∷ []) leads.0 w.0 path.items w.1 m.0 (plain v) l.e.value m.1.1 in
       let place = stands d ns (tokens ++ name ∷ []) leads.0 w.0 path.items w.1 in
       let member : Adds (plain v) (tokens ++ name ∷ []) d.value l.e.value = in_member name (list_of_members ms.0) (subst (value.RefersAlong d.value tokens c.path) object_so (stands d ns tokens n c c.path refl)) place (subst (λ k. Becomes k (plain v) path.items d.value l.e.value) (sym was) m.1.1) in
       let holder : RefersTo d.value tokens (object ms.0) = (c.value, c.is, c.path, subst (Refers c.value tokens c.path) ms.1 c.refers) in
-      (l.e, l.shown, record { edits = edit ∷ []; own = by.adds (by.as_value name holder place); edited = l.edited; within = l.within; options = options_so d l.e l.op op l.asks l.options; made = member })
+      (l.e, l.shown, record { edits = edit ∷ []; own = by.adds (by.as_value name holder place); edited = l.edited; within = l.within; options = options_so d l.e l.op op l.asks.1 l.options; made = member })
 
   -- the document's value is set
   pub whole_so : (v : CstInputValue A) → IsEditDone old (SetRoot v) new → MakesWhatShown old (value.add [] (plain v)) (λ o. IsOfNumbers o (plain v)) new

@@ -26,6 +26,7 @@ use Rattle.jsonc_run.specs.declared.edit.Edit.{Edit}
 use Rattle.jsonc_run.specs.declared.edit.Edit.TheVariants.{Replace, Remove, SetRoot, InsertElement, AppendElement, AppendProperty}
 use Rattle.jsonc_run.specs.Edits.{operation_of, unsorted}
 use Rattle.jsonc_run.specs.Named.{comment_count, IsNamed, StandsAt}
+use Rattle.jsonc_run.proofs.lemmas.promise.Plains.{stands_there}
 use Rattle.jsonc_cst.specs.declared.cst.CstRootNode.{CstRootNode}
 use Rattle.jsonc_cst.specs.declared.cst.node.CstNode.{CstNode}
 use Rattle.jsonc_cst.specs.Document.{nodes_of, tree_of}
@@ -205,7 +206,7 @@ module _ {A : Type 0} where
       over = path_once (nodes_of doc) tree w.path path.items n w.at at
 
       stands : StandsAt w.v path.items d.value
-      stands = (w.value, w.is, subst (λ p. Changed w.v w.v p w.value w.value) over (refers_changed w.refers))
+      stands = stands_there w.value w.is (subst (λ p. Changed w.v w.v p w.value w.value) over (refers_changed w.refers))
 
       pub memory_to_remove : (c : PatchCause A) → IsRefusal doc (Remove path) c → IsUnedited c
       memory_to_remove c reported = refusal_memory (Remove path) (λ h. h, λ h. h) c reported d shown (w.v, stands)

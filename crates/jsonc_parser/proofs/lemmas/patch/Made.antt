@@ -15,7 +15,7 @@ use Rattle.jsonc_run.specs.Named.{sets_root, Asks}
 use Rattle.jsonc_run.specs.promise.Asked.{EditsTo}
 use Rattle.jsonc_run.specs.promise.Chains.{NamedRun, none_named, one_named}
 use Rattle.jsonc_run.specs.texts.Edits as texts
-use Rattle.jsonc_run.specs.texts.Edits.{options_behind, Makes, Operation, Run}
+use Rattle.jsonc_run.specs.texts.Edits.{options_behind, Does, Makes, Operation, Run}
 use Rattle.jsonc_run.specs.texts.Entries as entries
 use Rattle.jsonc_run.specs.texts.Entries.{Becomes}
 use Rattle.jsonc_run.proofs.SoundChain.{of_characters}
@@ -69,9 +69,9 @@ led edit old new tree after made d shown fits =
     let one = one_edit l.4 refl in
     record { e = l.0; shown = l.1; edited = edits_to (one_asks unsorted none_asks) l.4; op = one.op; asks = one.asks; options = one.options; makes = one.makes; within = made.1 d l.0 shown fits l.1 }
 
--- the operation, where it is known
-pub makes_so : (d e : Document) (op other : Operation) → op ≡ other → Makes d op e → Makes d other e
-makes_so d e op other is m = subst (λ k. Makes d k e) is m
+-- what the operation does, where it is known
+pub does_so : (d e : Document) (op other : Operation) → op ≡ other → Makes d op e → Does d other e
+does_so d e op other is m = subst (λ k. Does d k e) is m.0
 
 pub options_so : (d e : Document) (op other : Operation) → op ≡ other → e.options ≡ options_behind d.options op → e.options ≡ options_behind d.options other
 options_so d e op other is same = subst (λ k. e.options ≡ options_behind d.options k) is same
@@ -83,8 +83,8 @@ root_becomes was v (Some x) None b = absurd b
 root_becomes was v None y b = absurd b
 
 pub root_set : (d e : Document) (v : Plain) (w : Option Plain) (op : Operation) → op ≡ sets_root w v → Makes d op e → e.value ≡ Some v
-root_set d e v None op is m = (makes_so d e op (texts.come_first v) is m).13
-root_set d e v (Some x) op is m = let p = makes_so d e op (texts.replace [] v) is m in root_becomes p.0 v d.value e.value p.1.1
+root_set d e v None op is m = (does_so d e op (texts.come_first v) is m).13
+root_set d e v (Some x) op is m = let p = does_so d e op (texts.replace [] v) is m in root_becomes p.0 v d.value e.value p.1.1
 
 pub root_options : (o : Options) (v : Plain) (w : Option Plain) (op : Operation) → op ≡ sets_root w v → options_behind o op ≡ o
 root_options o v None op is = ap (options_behind o) is

@@ -5,7 +5,7 @@ use Rattle.std.proofs.lemmas.List.{append-nil, append_assoc}
 use Rattle.std.proofs.lemmas.List.Elements.{All-cons, All-nil}
 use Rattle.jsonc_text.specs.Plain.{Plain, object, Members, member}
 use Rattle.jsonc_insert.specs.named.Members.{LacksMember, no_more, other_name}
-use Rattle.jsonc_run.specs.texts.Edits as edits
+use Rattle.jsonc_run.specs.texts.Leaving as leaving
 use Rattle.jsonc_run.specs.texts.Entries as entries
 use Rattle.jsonc_run.specs.texts.Entries.{of, members, Becomes, Changed, Named}
 use Rattle.jsonc_run.specs.texts.Paths.{an_object}
@@ -69,7 +69,7 @@ removes_at o os alone x = (
   path_to os ++ length o.front ∷ [],
   x,
   stands_at (o ∷ os) alone x,
-  edits.one an_object o.front o.back (entry o.name x) (path_to os) (becomes_at os (object_of o x) (object (members (o.front ++ o.back)))),
+  leaving.one an_object o.front o.back (entry o.name x) (path_to os) (becomes_at os (object_of o x) (object (members (o.front ++ o.back)))),
 )
 
 -- or there is none

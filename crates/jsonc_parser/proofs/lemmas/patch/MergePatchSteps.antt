@@ -2,8 +2,8 @@
 use Rattle.std.proofs.Common.{ℕ, suc, ◌≡◌, ◌⊎◌, ◌∙◌, ◌++◌, ap, sym, subst, refl, inl, inr, List, [], ◌∷◌, length, Option, Some}
 use Rattle.jsonc_text.specs.Plain.{Plain, object, Members, no_members, member, without}
 use Rattle.jsonc_insert.specs.named.Members.{LacksMember, no_more, other_name, IsFirstMember, first_is, first_later}
-use Rattle.jsonc_run.specs.texts.Edits as edits
-use Rattle.jsonc_run.specs.texts.Edits.{Loses}
+use Rattle.jsonc_run.specs.texts.Leaving as leaving
+use Rattle.jsonc_run.specs.texts.Leaving.{Loses}
 use Rattle.jsonc_run.specs.texts.Entries.{of, members}
 use Rattle.jsonc_run.specs.texts.Paths.{an_array, an_object}
 use Rattle.jsonc_parser.specs.patch.Failing.{ReferToNothing}
@@ -87,11 +87,11 @@ module _ (os : List Around) (name : List ℕ) (ns : Members) where
   -- the member of the name leaves
   loses_there : {w u : Option Plain} {path : List ℕ} → Loses w u path → (i : ℕ) (x : Plain) → IsOnly name x i ns → path ≡ path_to os ++ i ∷ [] → w ≡ Some (within os (object ns))
       → u ≡ Some (within os (object (without name ns)))
-  loses_there (edits.all none) i x only e is = absurd (no_last (path_to os) i (sym e))
-  loses_there {w} {u} (edits.one an_array front back old path b) i x only e is =
+  loses_there (leaving.all none) i x only e is = absurd (no_last (path_to os) i (sym e))
+  loses_there {w} {u} (leaving.one an_array front back old path b) i x only e is =
       let s = same_last path (path_to os) (length front) i e in
       absurd (no_array (sym (becomes_there (of an_array (front ++ old ∷ back)) (of an_array (front ++ back)) os (object ns) w u path is s.0 b).0))
-  loses_there {w} {u} (edits.one an_object front back old path b) i x only e is =
+  loses_there {w} {u} (leaving.one an_object front back old path b) i x only e is =
       let s = same_last path (path_to os) (length front) i e in
       let t = becomes_there (of an_object (front ++ old ∷ back)) (of an_object (front ++ back)) os (object ns) w u path is s.0 b in
       let m : ns ≡ members (front ++ old ∷ back) = same_members_in t.0 in

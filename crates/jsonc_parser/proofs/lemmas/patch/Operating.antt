@@ -14,11 +14,10 @@ use Rattle.jsonc_insert.specs.elements.Laws.{item_count}
 use Rattle.jsonc_insert.specs.elements.Members.{member_count}
 use Rattle.jsonc_insert.specs.named.Members.{LacksMember, no_more, other_name, IsFirstMember, first_is, first_later}
 use Rattle.jsonc_run.specs.Named as asks
-use Rattle.jsonc_run.specs.texts.Edits.{Loses}
+use Rattle.jsonc_run.specs.texts.Leaving.{Loses}
 use Rattle.jsonc_run.specs.texts.Entries.{of, items, members, Becomes, Changed, itself, inside, Named}
 use Rattle.jsonc_run.specs.texts.Paths.{Kind, an_array, an_object}
 use Rattle.jsonc_run.proofs.lemmas.promise.Inserting.{counted}
-use Rattle.jsonc_run.proofs.lemmas.promise.Plains.{changed}
 use Rattle.jsonc_parser.specs.patch.Found.{RefersToNode, RefersToNothing}
 use Rattle.jsonc_parser.specs.patch.Operations.{as_element, as_member, as_whole, in_member, Adds, RefersAlong, Removes, Replaces}
 use Rattle.jsonc_parser.specs.patch.References.{FailsAt, IsIndex, IsItem, this_item, later_item, IsOnly, this_only, later_only, IsRepeated, this_again, later_again, MeetsRepeated, here, Refers, RefersTo, whole, to_member, to_element}
@@ -143,7 +142,7 @@ module _ (d : Document) (ns : List Node) (tokens : List (List ℕ)) (n : ℕ) (w
 
   -- a value that is named there is it
   pub was_standing : (u : Plain) → asks.StandsAt u path d.value → w.v ≡ u
-  was_standing u (x, is, c) = becomes_there d.value (Some x) u w.is (subst (λ k. Becomes u u path k (Some x)) (sym is) (changed c)) refers
+  was_standing u stands = becomes_there d.value d.value u w.is stands refers
 
   -- none is after a place that is past all of them
   pub last_item : (vs : Items) (i : ℕ) (front back : List Named) → asks.StandsAt (plain.array vs) path d.value → item_count vs ≤ i → w.v ≡ of an_array (front ++ back) → length front ≡ min i (length (front ++ back)) → back ≡ []

@@ -43,10 +43,10 @@ run_options {d} {e} {op} (texts.one_made {e = m} one options makes rest) is = su
 written_options : (o : Options) {u : Plain} {over : Over} {w : Option Plain} {tokens rest : List (List ℕ)} {e : PlainEdit} → IsWrittenBy u over w tokens rest e → (op : Operation) → Asks w e op → options_behind o op ≡ o
 written_options o {u} {w = w} sets_root op a = root_options o u w op a
 written_options o {u} {w = w} (sets_first none) op a = root_options o u w op a
-written_options o (replaces l) op a = ap (options_behind o) a
+written_options o (replaces l) op (there, is) = ap (options_behind o) is
 written_options o (appends_member front rest l lacks) op (ms, i, there, far, is) = ap (options_behind o) is
 written_options o (appends_element front rest l end) op (vs, i, there, far, is) = ap (options_behind o) is
-written_options o (replaces_other front rest l kind how) op a = ap (options_behind o) a
+written_options o (replaces_other front rest l kind how) op (there, is) = ap (options_behind o) is
 
 -- around what is written are at least as many as in it
 written_needs : {u : Plain} {over : Over} {w : Option Plain} {tokens rest : List (List ℕ)} {e : PlainEdit} → IsWrittenBy u over w tokens rest e → around u ≤ needs_in w e

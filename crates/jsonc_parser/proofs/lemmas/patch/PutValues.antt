@@ -21,6 +21,7 @@ use Rattle.jsonc_run.specs.texts.Edits as texts
 use Rattle.jsonc_run.specs.texts.Edits.{Operation}
 use Rattle.jsonc_run.specs.texts.Entries.{Named}
 use Rattle.jsonc_run.specs.texts.Paths.{an_array}
+use Rattle.jsonc_run.proofs.lemmas.promise.Plains.{stands_there, what_stands}
 use Rattle.jsonc_parser.specs.paths.Settings.{FirstAt, FirstBecomes, IsAppended, nest}
 use Rattle.jsonc_parser.specs.declared.paths.which.Which.TheVariants.{First}
 use Rattle.jsonc_parser.specs.patch.References.{IsIndex, IsItem, this_item, later_item}
@@ -108,8 +109,9 @@ object_same : (ms ns : Members) → plain.object ms ≡ plain.object ns → ms �
 object_same ms ns e = cc
 
 element_appended : (path : List ℕ) (v : Plain) {w y : Option Plain} {op : Operation} → Asks w (append_element path v) op → IsChanged w op y → ByElement path v w y
-element_appended path v (vs, i, stands, far, is) c =
+element_appended path v {w} (vs, i, there, far, is) c =
     let m = inserted_there c path i v is in
+    let stands = what_stands w there in
     let g = m.gains in
     let same : stands.0 ≡ m.old = some_same stands.0 m.old (sym stands.1 ∙ m.is) in
     let rows : vs ≡ g.old = array_same vs g.old (value_once (subst (λ k. Changed (plain.array vs) (plain.array vs) path k k) same stands.2) g.changed) in
@@ -136,7 +138,7 @@ module _ (v : Plain) (over : Over) where
   put_by_written {u} {w} n (sets_first {token = token} {rest = rest} none) y op a c =
       subst (λ k. Puts v over k (token ∷ rest) y) (sym none) (subst (Puts v over None (token ∷ rest)) (sym (root_set w c u a)) (as_first n))
   put_by_written {u} {w} n (replaces {token = token} {rest = rest} {path = path} (x, is, l)) y op a c =
-      let b = replaced c path u a in
+      let b = replaced c path u a.1 in
       let same : b.old ≡ x = some_same b.old x (sym b.is ∙ is) in
       let changed = subst (λ k. Changed b.was k path x b.new) n.1 (subst (λ k. Changed b.was u path k b.new) same b.changed) in
       in_some is b.now (put_there l changed)
@@ -153,7 +155,7 @@ module _ (v : Plain) (over : Over) where
       let inner : vs ≡ b.vs = array_same vs b.vs (first_value l changed) in
       in_some is b.now (put_inside v over (token ∷ rest) l changed (as_element n (subst (λ k. IsAfterLast token (item_count k)) inner end) b.comes))
   put_by_written {u} {w} n (replaces_other front rest {token = token} {path = path} {x = other} (x, is, l) kind how) y op a c =
-      let b = replaced c path u a in
+      let b = replaced c path u a.1 in
       let same : b.old ≡ x = some_same b.old x (sym b.is ∙ is) in
       let changed = subst (λ k. Changed b.was u path k b.new) same b.changed in
       let inner : other ≡ b.was = first_value l changed in
@@ -164,7 +166,7 @@ module _ (v : Plain) (over : Over) where
 
 -- it has its place, and writes numbers as v does
 stands : {w : Option Plain} {tokens : List (List ℕ)} {path : List ℕ} {x : Plain} → LeadsAlong w tokens path x → StandsAt x path w
-stands (x, is, l) = (x, is, first_changed l)
+stands (x, is, l) = stands_there x is (first_changed l)
 
 pub written_named : {u : Plain} {over : Over} {w : Option Plain} {tokens rest : List (List ℕ)} {e : PlainEdit} (count : ℕ) → IsWrittenBy u over w tokens rest e → IsNamed w count e
 written_named count sets_root = tt

@@ -18,6 +18,7 @@ use Rattle.jsonc_run.specs.Edits.{operation_of, rename_property, unsorted}
 use Rattle.jsonc_run.specs.Named.{HasPropertyAt}
 use Rattle.jsonc_run.specs.texts.Edits as texts
 use Rattle.jsonc_run.specs.texts.Edits.{BecomesProperty, Operation}
+use Rattle.jsonc_run.proofs.lemmas.promise.Plains.{stands_there}
 use Rattle.jsonc_sound.specs.Documents.{Shows}
 use Rattle.jsonc_cst.specs.declared.cst.CstRootNode.{CstRootNode}
 use Rattle.jsonc_cst.specs.declared.cst.node.CstNode.{CstNode}
@@ -36,7 +37,7 @@ use Rattle.jsonc_parser.specs.declared.patch.making.PatchCause.TheVariants as ca
 use Rattle.jsonc_parser.proofs.lemmas.patch.Evaluation.{behind, fails_further, index_once, item_once, member_further, never_both, object_stops, only_of_more, only_once, refers_changed}
 use Rattle.jsonc_parser.proofs.lemmas.patch.Failing.{fails_longer, has_path, memory_cause, refusal_memory, unedited, unmoved}
 use Rattle.jsonc_parser.proofs.lemmas.patch.Exclusive.{no_last, same_last}
-use Rattle.jsonc_parser.proofs.lemmas.patch.Made.{led, makes_so, options_so}
+use Rattle.jsonc_parser.proofs.lemmas.patch.Made.{led, does_so, options_so}
 use Rattle.jsonc_parser.proofs.lemmas.patch.Operating.{name_cases, nothing_more}
 
 -- the one member of a name has one place, and is one of the members
@@ -87,7 +88,7 @@ property_there {x} {v} {ns} {tokens} {q} {p} w last is holder r =
     elim (name_cases last ns) [
       | inl lacks ↦ (let b = behind (last ∷ []) holder r in absurd ((object_stops refl lacks []).0 v b.0 b.1))
       | inr there ↦ elim there [
-        | inl one ↦ (q, one.0, ns, one_path r (member_further holder refl one.2), (x, is, refers_changed holder), only_within one.2)
+        | inl one ↦ (q, one.0, ns, one_path r (member_further holder refl one.2), stands_there x is (refers_changed holder), only_within one.2)
         | inr again ↦ absurd (never_both r (fails_further (last ∷ []) holder (here again)))
       ]
     ]
@@ -100,7 +101,7 @@ module _ {A : Type 0} (old new : CstRootNode A) (tree : IsTree (nodes_of old)) (
       let w = r.refers d shown in
       let over : w.path ≡ path.items = path_once (nodes_of old) tree w.path path.items (number_of node) w.at at in
       let op : Operation = texts.rename_property path.items (chars_of name) in
-      let m = makes_so d l.e l.op op l.asks l.makes in
+      let m = does_so d l.e l.op op l.asks.1 l.makes in
       let becomes : BecomesProperty (λ e. record { name = last; value = e.value }) path.items d.value l.e.value = subst (λ k. BecomesProperty (λ e. record { name = k; value = e.value }) path.items d.value l.e.value) is m.1 in
       let stands : RefersAlong d.value from path.items w.v = subst (λ p. RefersAlong d.value from p w.v) over (w.value, w.is, w.refers) in
       let none = r.nothing d shown in
@@ -109,7 +110,7 @@ module _ {A : Type 0} (old new : CstRootNode A) (tree : IsTree (nodes_of old)) (
       let o = r.object d shown in
       let beside : IsWithinObject from to d.value = record { tokens = r.tokens; last = r.beside.last; name = last; members = o.0; first = r.beside.first; second = r.beside.second; object = o.1; nothing = (none.nothing, none.unique) } in
       let own : by.IsMadeBy d.value (value.move from to) (map (operation_of unsorted) (edit ∷ [])) = subst (λ k. by.IsMadeBy d.value (value.move from to) (rename_property path.items k ∷ [])) (sym is) (by.renames beside stands) in
-      (l.e, l.shown, record { edits = edit ∷ []; own = own; edited = l.edited; within = l.within; options = options_so d l.e l.op op l.asks l.options; made = moves })
+      (l.e, l.shown, record { edits = edit ∷ []; own = own; edited = l.edited; within = l.within; options = options_so d l.e l.op op l.asks.1 l.options; made = moves })
 
 module _ {A : Type 0} (doc : CstRootNode A) (tree : IsTree (nodes_of doc)) (node : CstNode) (c : PatchCause A) where
   pub renames_not : (path : Vec ℕ A) → IsAt (nodes_of doc) path.items (number_of node) → (name : String A) (last : List ℕ) → IsRefusal doc (RenameProperty path name) c → FailsToRename doc node last c

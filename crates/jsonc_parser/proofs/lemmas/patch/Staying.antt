@@ -3,7 +3,7 @@ use Rattle.std.proofs.Common.{ℕ, zero, suc, ◌≡◌, ◌≢◌, ◌<◌, ◌
 use Rattle.jsonc_text.specs.Plain.{Plain, Items, item, Members, member}
 use Rattle.jsonc_text.specs.Plain as plain
 use Rattle.jsonc_insert.specs.named.Members.{LacksMember, no_more, other_name}
-use Rattle.jsonc_run.specs.texts.Edits.{all, one, Loses}
+use Rattle.jsonc_run.specs.texts.Leaving.{all, one, Loses}
 use Rattle.jsonc_run.specs.texts.Entries.{of, items, members, Becomes, Changed, itself, inside, Named}
 use Rattle.jsonc_run.specs.texts.Paths.{Kind, an_array, an_object}
 use Rattle.jsonc_parser.specs.patch.MergeSteps.{RefersToObject}

@@ -11,6 +11,7 @@ use Rattle.jsonc_run.specs.Named as asks
 use Rattle.jsonc_run.specs.texts.Edits as texts
 use Rattle.jsonc_run.specs.texts.Entries.{Named}
 use Rattle.jsonc_run.specs.texts.Paths.{an_object}
+use Rattle.jsonc_run.proofs.lemmas.promise.Plains.{stands_there, what_stands}
 use Rattle.jsonc_parser.specs.paths.Settings as settings
 use Rattle.jsonc_parser.specs.paths.Settings.{FirstAt, this_at, later_at, FirstIs, this_one, later_one, FirstBecomes, this_becomes, later_becomes, FirstIsRemoved, this_removed, later_removed, IsAppended, appended_alone, appended_after, At, nest, IsNoObject, Put, is_there, changes_inside, is_appended, is_nested, gives_way, Dropped, value_dropped, property_dropped, dropped_inside}
 use Rattle.jsonc_parser.specs.paths.Which.{IsChosenAt, seen, seen_if, seen_members}
@@ -200,8 +201,9 @@ pub some_same : (x y : Plain) → Some x ≡ Some y → x ≡ y
 some_same x y e = cc
 
 pub appended : (path name : List ℕ) (v : Plain) {w y : Option Plain} {op : Operation} → Asks w (append_property path name v) op → IsChanged w op y → ByMember path name v w y
-appended path name v (ms, i, stands, far, is) c =
+appended path name v {w} (ms, i, there, far, is) c =
     let m = inserted_there c path i name v is in
+    let stands = what_stands w there in
     let g = m.gains in
     let same : stands.0 ≡ m.old = some_same stands.0 m.old (sym stands.1 ∙ m.is) in
     let rows : ms ≡ g.old = object_same ms g.old (value_once (subst (λ k. Changed (plain.object ms) (plain.object ms) path k k) same stands.2) g.changed) in
@@ -272,7 +274,7 @@ put_by : {which : Which} {v : Plain} {over : Over} {w : Option Plain} {names : L
 put_by {which} {v} {over} (sets_root {w = w}) y op a c = put_root which v over w y (root_set w c v a)
 put_by {which} {v} {over} (sets_first {name = name} {names = names}) y op a c = put_first which v over name names y (root_set None c (nest (name ∷ names) v) a)
 put_by {which} {v} {over} (sets_value {name = name} {names = names} {path = path} {x = x} l) y op a c =
-    let b = replaced c path v a in
+    let b = replaced c path v a.1 in
     let same : b.old ≡ x = sym (some_same x b.old b.is) in
     seen_put which v over x b.new (name ∷ names) y b.now (put_there l (subst (λ k. Changed b.was v path k b.new) same b.changed))
 put_by {which} {v} {over} (appends front rest {name = name} {path = path} {x = x} {ms = ms} l lacks) y op a c =
@@ -282,7 +284,7 @@ put_by {which} {v} {over} (appends front rest {name = name} {path = path} {x = x
     let inner : ms ≡ b.ms = object_same ms b.ms (leads_value l changed) in
     seen_put which v over x b.new (front ++ name ∷ rest) y b.now (put_inside which (seen which v) over (name ∷ rest) l changed (comes_seen which v over name rest b.ms b.ns (subst (LacksMember name) inner lacks) b.comes))
 put_by {which} {v} {over} (replaces front rest {name = name} {path = path} {x = x} {other = other} l non how) y op a c =
-    let b = replaced c path (nest (name ∷ rest) v) a in
+    let b = replaced c path (nest (name ∷ rest) v) a.1 in
     let same : b.old ≡ x = sym (some_same x b.old b.is) in
     let changed = subst (λ k. Changed b.was (nest (name ∷ rest) v) path k b.new) same b.changed in
     let inner : other ≡ b.was = leads_value l changed in
@@ -290,7 +292,7 @@ put_by {which} {v} {over} (replaces front rest {name = name} {path = path} {x = 
 
 drop_by : {w : Option Plain} {names : List (List ℕ)} {e : PlainEdit} → IsDroppedBy w names e → (y : Option Plain) (op : Operation) → Asks w e op → IsChanged w op y → Dropped w names y
 drop_by (removes {names = names} {path = path} {x = x} {was = was} l) y op a c =
-    elim (was_removed c path a) [
+    elim (was_removed c path a.1) [
       | value_removed e now ↦ subst (λ k. Dropped (Some x) k y) (sym (no_names l e)) (subst (Dropped (Some x) []) (sym now) value_dropped)
       | entry_removed front i old new e is now loses ↦
           subst (Dropped (Some x) names) (sym now) (entry_dropped (last_name l front i e) (subst (λ k. LosesEntry front i k new) (sym (some_same x old is)) loses))
@@ -298,7 +300,7 @@ drop_by (removes {names = names} {path = path} {x = x} {was = was} l) y op a c =
 
 -- each has its place
 stands : {which : Which} {names : List (List ℕ)} {path : List ℕ} {x v : Plain} → Leads which names path x v → StandsAt v path (Some x)
-stands {x = x} l = (x, refl, leads_changed l)
+stands {x = x} l = stands_there x refl (leads_changed l)
 
 last_step : {which : Which} {names : List (List ℕ)} {path : List ℕ} {x v : Plain} → Leads which names path x v → (name : List ℕ) (rest : List (List ℕ)) → names ≡ name ∷ rest → (front : List ℕ) × (i : ℕ) × (path ≡ front ++ i ∷ [])
 last_step leads_nowhere name rest e = cc

@@ -29,12 +29,12 @@ pub put_options : (o : Options) {which : Which} {v : Plain} {over : Over} {w : O
     → options_behind o op ≡ o
 put_options o {v = v} op (sets_root {w = w}) is = ap (options_behind o) is ∙ root_options o w v
 put_options o op sets_first is = ap (options_behind o) is
-put_options o op (sets_value l) is = ap (options_behind o) is
+put_options o op (sets_value l) (there, is) = ap (options_behind o) is
 put_options o op (appends front rest l lacks) (ms, i, stands, far, is) = ap (options_behind o) is
-put_options o op (replaces front rest l non how) is = ap (options_behind o) is
+put_options o op (replaces front rest l non how) (there, is) = ap (options_behind o) is
 
 pub drop_options : (o : Options) {w : Option Plain} {names : List (List ℕ)} {e : PlainEdit} (op : Operation) → IsDroppedBy w names e → Asks w e op → options_behind o op ≡ o
-drop_options o op (removes l) is = ap (options_behind o) is
+drop_options o op (removes l) (there, is) = ap (options_behind o) is
 
 -- a list without edits leads nowhere, and one of one edit to a document with the options after it
 nowhere : {d e : Document} {ops : List Operation} → Run d ops e → ops ≡ [] → d ≡ e

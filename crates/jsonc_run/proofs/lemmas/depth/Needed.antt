@@ -14,12 +14,13 @@ use Rattle.jsonc_edit.specs.set.Shapes.{empty_of}
 use Rattle.jsonc_run.specs.Depth.{levels_in, around_in, needs, needs_in, needs_at, nesting_at}
 use Rattle.jsonc_run.specs.Edits as edits
 use Rattle.jsonc_run.specs.Edits.{PlainEdit, place_of}
-use Rattle.jsonc_run.specs.Named.{Asks, StandsAt, EnsuresNamed, ensures_root, kept_or_emptied, may_stay, sets_root}
+use Rattle.jsonc_run.specs.Named.{Asks, StandsAt, EnsuresNamed, ensures_root, may_stay, sets_root}
+use Rattle.jsonc_run.proofs.EnsuredValues.{kept_or_emptied}
 use Rattle.jsonc_run.specs.Places.{Place, in_document, at_value, at_entry, at_property, at_boolean, at_array, at_object, at_container, at_comment, AtPlace}
 use Rattle.jsonc_run.specs.texts.Edits.{Operation}
 use Rattle.jsonc_run.proofs.lemmas.depth.Nodes.{no_member_further, nesting_is_levels, property_nesting}
 use Rattle.jsonc_run.proofs.lemmas.depth.Plains.{at_path, levels_further}
-use Rattle.jsonc_run.proofs.lemmas.promise.Plains.{changed}
+use Rattle.jsonc_run.proofs.lemmas.promise.Plains.{changed, what_stands}
 
 module _ (ns : List Node) where
   -- of what is so at a place, the node that it is so of
@@ -126,12 +127,13 @@ module _ (w : Option Plain) where
 
   -- a path leads into an object by two levels
   into_object : (path : List ℕ) (i : ℕ) (ms : Members) → StandsAt (Plain.object ms) path w → levels_in (path ++ i ∷ []) w ≡ levels_in path w + 2
-  into_object path i ms (x, is, stands) =
-      subst (λ y. levels_in (path ++ i ∷ []) y ≡ levels_in path y + 2) (sym is) (omega (arith, levels_further (i ∷ []) (changed stands), no_member_further i ms))
+  into_object path i ms there =
+      let s = what_stands w there in
+      subst (λ y. levels_in (path ++ i ∷ []) y ≡ levels_in path y + 2) (sym s.1) (omega (arith, levels_further (i ∷ []) (changed s.2), no_member_further i ms))
 
   -- and no further than the document's value is nested
   in_value : (v : Plain) (path : List ℕ) → StandsAt v path w → levels_in path w ≤ around_in w
-  in_value v path (x, is, stands) = subst (λ y. levels_in path y ≤ around_in y) (sym is) (omega (arith, at_path (changed stands)))
+  in_value v path there = let s = what_stands w there in subst (λ y. levels_in path y ≤ around_in y) (sym s.1) (omega (arith, at_path (changed s.2)))
 
   -- of the operation that is asked for, no more is needed than of the edit
   named_ensured : (path name : List ℕ) (shape : Shape) (how : Over) (ms : Members) (op : Operation) → StandsAt (Plain.object ms) path w → EnsuresNamed w path name shape how ms op → needs w op ≤ levels_in path w + 2
@@ -144,27 +146,27 @@ module _ (w : Option Plain) where
   asked op that n is h = subst (λ x. needs w x ≤ n) (sym is) h
 
   pub asked_needs : (e : PlainEdit) (op : Operation) → Asks w e op → needs w op ≤ needs_in w e
-  asked_needs (edits.replace path v) op is = asked op _ _ is (omega arith)
-  asked_needs (edits.remove path) op is = asked op _ _ is (omega arith)
+  asked_needs (edits.replace path v) op (there, is) = asked op _ _ is (omega arith)
+  asked_needs (edits.remove path) op (there, is) = asked op _ _ is (omega arith)
   asked_needs (edits.remove_comment number) op is = asked op _ _ is (omega arith)
   asked_needs (edits.set_root v) op is = asked op _ _ is (omega (arith, root_set w v))
   asked_needs edits.clear_root op is = asked op _ _ is (omega arith)
-  asked_needs (edits.replace_property path name v) op is = asked op _ _ is (omega arith)
+  asked_needs (edits.replace_property path name v) op (there, is) = asked op _ _ is (omega arith)
   asked_needs (edits.ensure_root shape how) op is = asked op _ _ is (root_ensured shape how w)
-  asked_needs (edits.set_value path v) op is = asked op _ _ is (omega arith)
-  asked_needs (edits.ensure_value path shape) op (v, stands, is) = asked op _ _ is (kept shape path (may_stay shape over.Replace v))
-  asked_needs (edits.set_boolean path b) op is = asked op _ _ is (omega arith)
-  asked_needs (edits.ensure_multiline path) op is = asked op _ _ is (omega arith)
-  asked_needs (edits.insert_element path i v) op is = asked op _ _ is (omega arith)
+  asked_needs (edits.set_value path v) op (there, is) = asked op _ _ is (omega arith)
+  asked_needs (edits.ensure_value path shape) op (there, v, stands, is) = asked op _ _ is (kept shape path (may_stay shape over.Replace v))
+  asked_needs (edits.set_boolean path b) op (there, is) = asked op _ _ is (omega arith)
+  asked_needs (edits.ensure_multiline path) op (there, is) = asked op _ _ is (omega arith)
+  asked_needs (edits.insert_element path i v) op (there, is) = asked op _ _ is (omega arith)
   asked_needs (edits.append_element path v) op (vs, i, stands, far, is) = asked op _ _ is (omega arith)
-  asked_needs (edits.insert_property path i name v) op is = asked op _ _ is (omega arith)
+  asked_needs (edits.insert_property path i name v) op (there, is) = asked op _ _ is (omega arith)
   asked_needs (edits.append_property path name v) op (ms, i, stands, far, is) = asked op _ _ is (omega arith)
   asked_needs (edits.ensure_property path name shape how) op (ms, stands, named) = named_ensured path name shape how ms op stands named
   asked_needs (edits.set_commas path mode) op is = asked op _ _ is (omega arith)
   asked_needs (edits.set_some_commas path mode) op is = asked op _ _ is (omega arith)
-  asked_needs (edits.rearrange by_blank_lines path headers order) op is = asked op _ _ is (omega arith)
-  asked_needs (edits.rename_property path name) op is = asked op _ _ is (omega arith)
-  asked_needs (edits.insert_comment path place text) op is = asked op _ _ is (omega arith)
+  asked_needs (edits.rearrange by_blank_lines path headers order) op (there, is) = asked op _ _ is (omega arith)
+  asked_needs (edits.rename_property path name) op (there, is) = asked op _ _ is (omega arith)
+  asked_needs (edits.insert_comment path place text) op (there, is) = asked op _ _ is (omega arith)
 
   -- and an edit needs no more than that, or than the document's value does
   asks : (op that : Operation) (n : ℕ) → op ≡ that → n ≤ needs w that → n ≤ max (around_in w) (needs w op)
@@ -175,24 +177,24 @@ module _ (w : Option Plain) where
   named_asks path name shape how ms op object (inr (lacks, i, far, is)) = asks op _ _ is (omega arith)
 
   pub needs_as_asked : (e : PlainEdit) (op : Operation) → Asks w e op → needs_in w e ≤ max (around_in w) (needs w op)
-  needs_as_asked (edits.replace path v) op is = asks op _ _ is (omega arith)
-  needs_as_asked (edits.remove path) op is = omega arith
+  needs_as_asked (edits.replace path v) op (there, is) = asks op _ _ is (omega arith)
+  needs_as_asked (edits.remove path) op (there, is) = omega arith
   needs_as_asked (edits.remove_comment number) op is = omega arith
   needs_as_asked (edits.set_root v) op is = asks op _ _ is (omega (arith, root_set w v))
   needs_as_asked edits.clear_root op is = omega arith
-  needs_as_asked (edits.replace_property path name v) op is = asks op _ _ is (omega arith)
+  needs_as_asked (edits.replace_property path name v) op (there, is) = asks op _ _ is (omega arith)
   needs_as_asked (edits.ensure_root shape how) op is = omega arith
-  needs_as_asked (edits.set_value path v) op is = asks op _ _ is (omega arith)
-  needs_as_asked (edits.ensure_value path shape) op (v, stands, is) = omega (arith, in_value v path stands)
-  needs_as_asked (edits.set_boolean path b) op is = omega arith
-  needs_as_asked (edits.ensure_multiline path) op is = omega arith
-  needs_as_asked (edits.insert_element path i v) op is = asks op _ _ is (omega arith)
+  needs_as_asked (edits.set_value path v) op (there, is) = asks op _ _ is (omega arith)
+  needs_as_asked (edits.ensure_value path shape) op (there, v, stands, is) = omega (arith, in_value v path stands)
+  needs_as_asked (edits.set_boolean path b) op (there, is) = omega arith
+  needs_as_asked (edits.ensure_multiline path) op (there, is) = omega arith
+  needs_as_asked (edits.insert_element path i v) op (there, is) = asks op _ _ is (omega arith)
   needs_as_asked (edits.append_element path v) op (vs, i, stands, far, is) = asks op _ _ is (omega arith)
-  needs_as_asked (edits.insert_property path i name v) op is = asks op _ _ is (omega arith)
+  needs_as_asked (edits.insert_property path i name v) op (there, is) = asks op _ _ is (omega arith)
   needs_as_asked (edits.append_property path name v) op (ms, i, stands, far, is) = asks op _ _ is (omega arith)
   needs_as_asked (edits.ensure_property path name shape how) op (ms, stands, named) = named_asks path name shape how ms op stands named
   needs_as_asked (edits.set_commas path mode) op is = omega arith
   needs_as_asked (edits.set_some_commas path mode) op is = omega arith
-  needs_as_asked (edits.rearrange by_blank_lines path headers order) op is = omega arith
-  needs_as_asked (edits.rename_property path name) op is = omega arith
-  needs_as_asked (edits.insert_comment path place text) op is = omega arith
+  needs_as_asked (edits.rearrange by_blank_lines path headers order) op (there, is) = omega arith
+  needs_as_asked (edits.rename_property path name) op (there, is) = omega arith
+  needs_as_asked (edits.insert_comment path place text) op (there, is) = omega arith

@@ -4,10 +4,11 @@ use Rattle.jsonc_text.specs.Documents.{Document}
 use Rattle.jsonc_text.specs.Plain.{Plain, around, boolean}
 use Rattle.jsonc_text.specs.declared.edit.Place.{Place}
 use Rattle.jsonc_text.specs.declared.edit.Place.TheVariants.{Above, After}
-use Rattle.jsonc_run.specs.Depth.{levels_in, around_in, entering, KeepsDepth}
+use Rattle.jsonc_run.specs.Depth.{levels_in, around_in, entering, KeepsDepth, needs}
 use Rattle.jsonc_run.specs.texts.Commenting.{InsertsComment}
 use Rattle.jsonc_run.specs.texts.Edits as texts
-use Rattle.jsonc_run.specs.texts.Edits.{BecomesProperty, ComesFirst, Loses, LosesComment}
+use Rattle.jsonc_run.specs.texts.Edits.{BecomesProperty, ComesFirst, Does}
+use Rattle.jsonc_run.specs.texts.Leaving.{Loses, LosesComment}
 use Rattle.jsonc_run.specs.texts.Entries.{Named, of, Becomes}
 use Rattle.jsonc_run.specs.texts.Paths.{Kind, an_object}
 use Rattle.jsonc_run.proofs.lemmas.depth.Plains.{of_one, of_both, entry_levels, at_path, replaced, no_deeper, levels_further, sorted_around}
@@ -80,20 +81,23 @@ module _ (d e : Document) where
   with_comment Above path s h = same 0 h.6.value
   with_comment After path s h = same 0 h.4.value
 
-  pub keeps_depth : (op : texts.Operation) → KeepsDepth d op e
-  keeps_depth texts.nothing h = same 0 h.1.0
-  keeps_depth (texts.replace path v) h = becomes h.0 v path d.value e.value h.1.1
-  keeps_depth (texts.set_boolean path b) h = no_more 0 (becomes_no_deeper (boolean h.0) (boolean b) path d.value e.value h.2 (omega arith))
-  keeps_depth (texts.replace_property path new) h = property new path d.value e.value h.1
-  keeps_depth (texts.come_first v) h = first v h
-  keeps_depth (texts.insert kind path i new) h = gains kind h.0 h.1 new path d.value e.value h.3.0
-  keeps_depth (texts.remove path) h = no_more 0 (loses h.1)
-  keeps_depth (texts.remove_comment n) h = without_comment n h
-  keeps_depth texts.clear_root h = subst (λ x. around_in x ≤ max (around_in d.value) 0) (sym h.1) (omega arith)
-  keeps_depth (texts.ensure_multiline path) h = same 0 h.2.0
-  keeps_depth (texts.set_commas whole path mode) h = same 0 h.0.1.0
-  keeps_depth (texts.rearrange by_blank_lines path order) h =
+  does_keep : (op : texts.Operation) → Does d op e → around_in e.value ≤ max (around_in d.value) (needs d.value op)
+  does_keep texts.nothing h = same 0 h.1.0
+  does_keep (texts.replace path v) h = becomes h.0 v path d.value e.value h.1.1
+  does_keep (texts.set_boolean path b) h = no_more 0 (becomes_no_deeper (boolean h.0) (boolean b) path d.value e.value h.2 (omega arith))
+  does_keep (texts.replace_property path new) h = property new path d.value e.value h.1
+  does_keep (texts.come_first v) h = first v h
+  does_keep (texts.insert kind path i new) h = gains kind h.0 h.1 new path d.value e.value h.3.0
+  does_keep (texts.remove path) h = no_more 0 (loses h.1)
+  does_keep (texts.remove_comment n) h = without_comment n h
+  does_keep texts.clear_root h = subst (λ x. around_in x ≤ max (around_in d.value) 0) (sym h.1) (omega arith)
+  does_keep (texts.ensure_multiline path) h = same 0 h.2.0
+  does_keep (texts.set_commas whole path mode) h = same 0 h.0.1.0
+  does_keep (texts.rearrange by_blank_lines path order) h =
       let none : Named = record { name = []; value = Plain.null } in
       no_more 0 (becomes_no_deeper (of h.0 h.1) (of h.0 (map (λ i. get_or h.1 i none) order)) path d.value e.value h.3 (sorted_around h.0 h.1 none order h.2))
-  keeps_depth (texts.rename_property path name) h = no_more 0 (renamed name path d.value e.value h.1)
-  keeps_depth (texts.insert_comment path place s) h = with_comment place path s h
+  does_keep (texts.rename_property path name) h = no_more 0 (renamed name path d.value e.value h.1)
+  does_keep (texts.insert_comment path place s) h = with_comment place path s h
+
+  pub keeps_depth : (op : texts.Operation) → KeepsDepth d op e
+  keeps_depth op h = does_keep op h.0

@@ -20,6 +20,7 @@ use Rattle.jsonc_run.specs.declared.edit.Edit.TheVariants.{Sort}
 use Rattle.jsonc_run.specs.Edits.{PlainEdit, Sorting, operation_of, set_some_commas, unsorted, EditSteps, first_made, none_made, Fits, IsOfCharacters, Allows}
 use Rattle.jsonc_run.specs.Named.{comment_count, IsNamed, Asks}
 use Rattle.jsonc_run.specs.Refusals.{IsLeft, FailsWith, as_it_was, set_in_part}
+use Rattle.jsonc_run.proofs.AskedPlaces.{place_asked, place_named}
 use Rattle.jsonc_run.proofs.NamedPlaces.{tells_unnamed}
 use Rattle.jsonc_run.proofs.Refused.{made_tree, refused_so}
 use Rattle.jsonc_run.specs.promise.Asked.{in_order, EditsTo, none_asked, one_asked, IsBegun, nothing, some_commas, StopsInText}
@@ -48,7 +49,7 @@ pub data Ask {A : Type 0} : List (Edit A) → List PlainEdit → Type 0 where
 pub edits_to : {A : Type 0} {es : List (Edit A)} {asked : List PlainEdit} {ops : List Operation} {d f : Document} → Ask es asked → NamedRun d asked ops f → EditsTo d es f
 edits_to none_asks (none_named one) = none_asked one
 edits_to (one_asks {e = e} s a) (one_named {d = d} {op = op} named asks run rest) =
-    one_asked s.order op (place_so d.value (length (comments_of d.marks)) s e named) (asks_so d.value s e op asks) run (edits_to a rest)
+    one_asked s.order op (place_asked d e (place_so d.value (length (comments_of d.marks)) s e named)) (asks_so d.value s e op asks) run (edits_to a rest)
 
 -- a tree has as many comments as the document that it shows
 counted : (d : Document) (t : OrderedTree) → Shows d t → comment_count t ≡ length (comments_of d.marks)
@@ -87,7 +88,8 @@ stops_so old now new edits k ops next why tree after made fits characters number
     let whole : IsTree now = made_tree tree made in
     let op : PlainEdit = operation_of unsorted next in
     let l = left_so now new next op m whole after there refl left in
-    let unnamed = tells_unnamed now m.options whole there.sound op why told m.value there.value in (
+    let unnamed = tells_unnamed now m.options whole there.sound op why told m.value there.value in
+    let named_so : (why ≡ NoSuchPlace) ↔ ¬ (IsNamed m.value (length (comments_of m.marks)) op) = subst (λ (n : ℕ). (why ≡ NoSuchPlace) ↔ ¬ (IsNamed m.value n op)) (counted m (ordered_tree now 0) there) unnamed in (
       l.e,
       l.shown,
       record {
@@ -96,7 +98,7 @@ stops_so old now new edits k ops next why tree after made fits characters number
         next = next;
         is_next = is_next;
         may_fail = refused_so m.options now whole there.sound m.value there.value op why told;
-        named = subst (λ (n : ℕ). (why ≡ NoSuchPlace) ↔ ¬ (IsNamed m.value n op)) (counted m (ordered_tree now 0) there) unnamed;
+        named = (λ is. λ place. named_so.0 is (place_named m next place), λ none. named_so.1 (λ named. none (place_asked m next named)));
         begun = l.begun;
         is_begun = l.is_begun;
         done = l.done;

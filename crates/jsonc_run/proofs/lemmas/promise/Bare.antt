@@ -10,7 +10,7 @@ use Rattle.jsonc_text.specs.Words.{Keyword, keyword_text, begins_word, is_in_wor
 use Rattle.jsonc_text.specs.Numbers.{Sign, Whole, Fraction, Exponent, Unsigned, Number, is_x, is_e, is_sign}
 use Rattle.jsonc_text.specs.Lexemes.{LexemeKind, Lexeme}
 use Rattle.jsonc_text.specs.Grammar.{may_name}
-use Rattle.jsonc_run.specs.texts.Edits.{is_bare, IsSeam, Meet}
+use Rattle.jsonc_run.specs.texts.Stretches.{is_bare, IsSeam, Meet}
 use Rattle.jsonc_text.specs.Letters.{is_wide_letter}
 use Rattle.jsonc_text.proofs.Begins.{begins_number, number_begins}
 use Rattle.jsonc_text.proofs.NumberFrames.{number_whole}

@@ -13,7 +13,7 @@ use Rattle.jsonc_sound.specs.Spaces as trees
 use Rattle.jsonc_sound.proofs.Pieces.{Piece, a_literal, a_name, a_trivia, LinesFlat, ends_line}
 use Rattle.jsonc_edit.specs.SeamLaws as seams
 use Rattle.jsonc_edit.specs.SeamLaws.{AreWhitespace, EndInNoBlank, BlanksRemoved}
-use Rattle.jsonc_run.specs.texts.Edits.{EndsInNoBlank, RemovedBefore, a_block, on_line, with_line_end}
+use Rattle.jsonc_run.specs.texts.Leaving.{EndsInNoBlank, RemovedBefore, a_block, on_line, with_line_end}
 use Rattle.jsonc_run.specs.texts.Stretches.{AreSpaces}
 use Rattle.jsonc_run.specs.promise.PlaceLaws.{text_of_leaves}
 use Rattle.jsonc_run.proofs.lemmas.promise.Bare.{AllSpelled, EndsBare, spelled_second}

@@ -2,7 +2,7 @@
 use Rattle.std.proofs.Common.{◌≡◌, ◌⊎◌, ◌∙◌, sym, ap, subst, refl, ℕ, true, false, Option, List, [], ◌∷◌}
 use Rattle.jsonc_run.specs.texts.Edits as texts
 use Rattle.jsonc_text.specs.Documents.{Document}
-use Rattle.jsonc_run.specs.texts.Edits.{Operation, Makes, Run, SetsCommas, sets_some}
+use Rattle.jsonc_run.specs.texts.Edits.{Operation, Makes, Run, SetsCommas}
 use Rattle.jsonc_text.specs.Grammar.{IsDocument}
 use Rattle.jsonc_text.specs.Plain.{Plain}
 use Rattle.jsonc_text.specs.Options.{Options}
@@ -19,6 +19,7 @@ use Rattle.jsonc_run.specs.Edits.{set_commas, set_some_commas}
 use Rattle.jsonc_run.specs.Written.{IsChangedAt}
 use Rattle.jsonc_run.proofs.SoundChain.{says}
 use Rattle.jsonc_run.specs.promise.Steps.{IsStepOf}
+use Rattle.jsonc_run.proofs.lemmas.promise.BlanksStay.{makes_in_place}
 use Rattle.jsonc_run.proofs.lemmas.promise.Lines.{AreSet, commas_made, some_commas_made}
 use Rattle.jsonc_run.proofs.lemmas.promise.ReplacedTexts.{is_one}
 
@@ -35,7 +36,7 @@ module _ (mode : TrailingCommaMode) (old new : List Node) (same : (o : Options) 
   -- of all commas that are set, or of the first of them, an operation is made
   abbrev IsMade : List ℕ → Operation → Type 0
   IsMade path op = (o : Options) (w x : Option Plain) → SoundTree o t → SoundTree (allowing mode o) u → IsDocument (allowing mode o) (printed_text u) x
-      → SetsCommas path (sets_some mode) (document_of o t w) (document_of (allowing mode o) u x) → Makes (document_of o t w) op (document_of (allowing mode o) u x)
+      → SetsCommas path mode (document_of o t w) (document_of (allowing mode o) u x) → Makes (document_of o t w) op (document_of (allowing mode o) u x)
 
   commas_run : (path : List ℕ) → Place path → (op : Operation) → ((o : Options) → allowing mode o ≡ texts.options_behind o op) → IsMade path op → (d : Document) → Shows d t → (e : Document) × Shows e u × Run d (op ∷ []) e
   commas_run path place op behind makes d shown =
@@ -49,7 +50,7 @@ module _ (mode : TrailingCommaMode) (old new : List Node) (same : (o : Options) 
       let d2 : Document = document_of o t was.0 in
       let e : Document = document_of (allowing mode o) u now.0 in
       let is : d2 ≡ d = ap (λ w. document_of o t w) (sym value) ∙ sym shown.is in
-      let sets : SetsCommas path (sets_some mode) d2 e = some_commas_made o t u was.0 now.0 path mode shown.sound kept.sound (second ∙ sym first) kept.marks kept.commas place in
+      let sets : SetsCommas path mode d2 e = some_commas_made o t u was.0 now.0 path mode shown.sound kept.sound (second ∙ sym first) kept.marks kept.commas place in
       let made : Makes d2 op e = makes o was.0 now.0 shown.sound kept.sound now.1.text sets in
       let run : Run d2 (op ∷ []) e =
       texts.one_made (is_one o t was.0 shown.sound was.1.text) (behind o) made (texts.none_made (is_one (allowing mode o) u now.0 kept.sound now.1.text)) in
@@ -58,11 +59,11 @@ module _ (mode : TrailingCommaMode) (old new : List Node) (same : (o : Options) 
   pub commas_lead : (path : List ℕ) → Place path → ((o : Options) → SoundTree o t → AreSet mode o path t u) → IsStepOf (set_commas path mode) old new
   commas_lead path place set = λ d shown fit.
       let op : Operation = texts.set_commas true path mode in
-      let run = commas_run path place op (λ o. refl) (λ o w x s r text sets. commas_made o t u w x path mode r text sets (set o s)) d shown in
+      let run = commas_run path place op (λ o. refl) (λ o w x s r text sets. makes_in_place _ op _ refl (commas_made o t u w x path mode r text sets (set o s))) d shown in
       (run.0, run.1, op, refl, run.2)
 
   pub some_commas_lead : (path : List ℕ) → Place path → IsStepOf (set_some_commas path mode) old new
   some_commas_lead path place = λ d shown fit.
       let op : Operation = texts.set_commas false path mode in
-      let run = commas_run path place op (λ o. refl) (λ o w x s r text sets. (sets, tt)) d shown in
+      let run = commas_run path place op (λ o. refl) (λ o w x s r text sets. makes_in_place _ op _ refl (sets, tt)) d shown in
       (run.0, run.1, op, refl, run.2)

@@ -20,8 +20,8 @@ use Rattle.jsonc_sound.proofs.Texts.{AllUtf8}
 use Rattle.jsonc_sound.proofs.TriviaLeaves.{front_leaves}
 use Rattle.jsonc_run.specs.promise.PlaceLaws.{text_of_leaves}
 use Rattle.jsonc_run.specs.texts.Entering.{NoCommaComes}
-use Rattle.jsonc_run.specs.texts.Edits.{Comma, Loose, Opens}
-use Rattle.jsonc_run.specs.texts.Edits as texts
+use Rattle.jsonc_run.specs.texts.Leaving.{Comma, Loose, Opens}
+use Rattle.jsonc_run.specs.texts.Leaving as leaving
 use Rattle.jsonc_run.proofs.lemmas.promise.Leaves.{back_of, document_parts, document_utf8, text_joined, utf8_first, utf8_second}
 use Rattle.jsonc_run.proofs.lemmas.promise.LooseRows.{Reads, kind_of_row, behind_comma, behind_entry, loose_text, loose_to, none_comes, reads_on, reads_past, row_reads, trivia_leaves}
 use Rattle.jsonc_run.proofs.lemmas.promise.Places.{DocumentItself}
@@ -78,7 +78,7 @@ module _ (o : Options) {t : OrderedTree} (s : SoundTree o t) (kind : RowKind) {p
       let own : List ℕ = text_of_leaves (leaves_of (container_of kind row)) in
       let here : Value path o (printed_text t) (own ++ z) z = subst (λ l. Value path o (printed_text t) (own ++ text_of_leaves l) (text_of_leaves l)) d.last (at_the_place o s d.changed).1 in
       let text : own ++ z ≡ places.opening (kind_of_row kind) ∷ (printed_text row ++ z) = ap (λ l. l ++ z) (ap text_of_leaves (container_leaves kind row) ∙ bracket_text kind row) in
-      texts.a_bracket (kind_of_row kind) path i (subst (λ x. Value path o (printed_text t) x z) text here)
+      leaving.a_bracket (kind_of_row kind) path i (subst (λ x. Value path o (printed_text t) x z) text here)
 
   regrouped : (a c e g i : List Content) → (a ++ (c ++ (e ++ g))) ++ i ≡ a ++ (c ++ (e ++ (g ++ i)))
   regrouped a c e g i = simp (append_assoc) refl
@@ -191,7 +191,7 @@ module _ (o : Options) {t : OrderedTree} (s : SoundTree o t) (kind : RowKind) {p
   whose i {top} (the_one_behind front after before between {trail = trail} {rest = rest} e el bt wt is) =
       let behind : List ℕ = text_of_leaves trail ++ text_of_leaves (rest ++ b) in
       subst (λ x. Comma (path ++ i ∷ []) o (printed_text t) (text_of_leaves before) (text_of_leaves (leaves_of top) ++ behind) behind true x x) (sym chars-nil)
-      (texts.behind (comma_next top front after before between trail rest e el bt wt is))
+      (leaving.behind (comma_next top front after before between trail rest e el bt wt is))
   whose i {top} (one_before front mid back before line e el bt lt free come) =
       let all = row_reads o z kind here in
       let inner : OrderedTree = followed_by mid (among before top line back) in
@@ -205,7 +205,7 @@ module _ (o : Options) {t : OrderedTree} (s : SoundTree o t) (kind : RowKind) {p
       let n = not_behind top back before line el bt lt come mid free u2 r2 l2 in
       let m = at_mid top back before line el bt lt come mid free u2 r2 l2 in
       let entry : List ℕ = text_of_leaves (leaves_of top) ++ (text_of_leaves line ++ text_of_leaves (leaves back ++ b)) in
-      subst (λ x. Comma (path ++ i ∷ []) o (printed_text t) (text_of_leaves before) entry (text_of_leaves line ++ text_of_leaves (leaves back ++ b)) false x (text_of_leaves (leaves mid))) (sym comma_text) (texts.before_it n (subst (λ x. Loose o x entry) m l))
+      subst (λ x. Comma (path ++ i ∷ []) o (printed_text t) (text_of_leaves before) entry (text_of_leaves line ++ text_of_leaves (leaves back ++ b)) false x (text_of_leaves (leaves mid))) (sym comma_text) (leaving.before_it n (subst (λ x. Loose o x entry) m l))
   whose i {top} (none_there front back before line e el bt lt free come) =
       let all = row_reads o z kind here in
       let r2 = subst (Reads o (kind_of_row kind) z) e all.0 in
@@ -215,7 +215,7 @@ module _ (o : Options) {t : OrderedTree} (s : SoundTree o t) (kind : RowKind) {p
       let n = not_behind top back before line el bt lt come front free u2 r2 l2 in
       let entry : List ℕ = text_of_leaves (leaves_of top) ++ (text_of_leaves line ++ text_of_leaves (leaves back ++ b)) in
       subst (λ x. Comma (path ++ i ∷ []) o (printed_text t) (text_of_leaves before) entry (text_of_leaves line ++ text_of_leaves (leaves back ++ b)) false x x) (sym chars-nil)
-      (texts.none n (opened i) (subst (λ r. Loose o (printed_text r ++ z) entry) (sym e) l))
+      (leaving.none n (opened i) (subst (λ r. Loose o (printed_text r ++ z) entry) (sym e) l))
 
   pub comma_so : (i : ℕ) {top : Top} {comma mid lead trail rest : List Content} {c : Bool} → Which top row comma mid lead trail rest c → (back : List Content) → rest ++ b ≡ back
       → Comma (path ++ i ∷ []) o (printed_text t) (text_of_leaves lead) (text_of_leaves (leaves_of top) ++ (text_of_leaves trail ++ text_of_leaves back)) (text_of_leaves trail ++ text_of_leaves back) c (text_of_leaves comma) (text_of_leaves mid)

@@ -16,7 +16,8 @@ use Rattle.jsonc_sound.proofs.Texts.{AllUtf8}
 use Rattle.jsonc_edit.specs.SeamLaws.{comments_before, LosesWithSeam}
 use Rattle.jsonc_edit.specs.Seams.{space_if}
 use Rattle.jsonc_text.specs.Marks as texts
-use Rattle.jsonc_run.specs.texts.Edits.{IsSeam, LosesComment}
+use Rattle.jsonc_run.specs.texts.Leaving.{LosesComment}
+use Rattle.jsonc_run.specs.texts.Stretches.{IsSeam}
 use Rattle.jsonc_run.specs.promise.PlaceLaws.{text_of_leaves}
 use Rattle.jsonc_run.proofs.lemmas.promise.BlanksGone.{removed_before}
 use Rattle.jsonc_run.proofs.lemmas.promise.Joined.{Good, good_as, good_first, good_second, good_tree}

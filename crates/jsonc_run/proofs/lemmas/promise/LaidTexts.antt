@@ -35,10 +35,10 @@ use Rattle.jsonc_run.proofs.lemmas.promise.Trivia.{first_text, newline_chars, pi
 use Rattle.jsonc_run.proofs.Parents.{or_true}
 
 -- the layout in characters
-abbrev in_text : trees.Layout → Layout
+abbrev pub in_text : trees.Layout → Layout
 in_text l = record { line_end = newline_text l.newline; indent = chars l.current; level = chars l.single; comma = l.trailing_commas }
 
-abbrev node_text : Top → List ℕ
+abbrev pub node_text : Top → List ℕ
 node_text node = text_of_leaves (leaves_of node)
 
 abbrev node_texts : List Top → List (List ℕ)
@@ -211,11 +211,11 @@ string_text : (s : List ℕ) → IsCharacters s → chars (encode_utf8_all (spel
 string_text s h = chars-encodes (spelled s) (spelled_characters s h)
 
 -- a name, a colon, a space and a value
-record NamedSo (name : List ℕ) (node : Top) : Type 0 where
-  own : AllUtf8 (leaves_of node)
-  text_is : node_text (trees_laid.property_of name node) ≡ named name (node_text node)
+pub record NamedSo (name : List ℕ) (node : Top) : Type 0 where
+  pub own : AllUtf8 (leaves_of node)
+  pub text_is : node_text (trees_laid.property_of name node) ≡ named name (node_text node)
 
-named_so : (name : List ℕ) (node : Top) → IsCharacters name → AllUtf8 (leaves_of (trees_laid.property_of name node)) → NamedSo name node
+pub named_so : (name : List ℕ) (node : Top) → IsCharacters name → AllUtf8 (leaves_of (trees_laid.property_of name node)) → NamedSo name node
 named_so name node h u =
     let value : OrderedTree = node_then node none in
     let m = node_first node none u.1.1.1 in

@@ -23,7 +23,7 @@ use Rattle.jsonc_sound.proofs.Pieces.{LinesFlat, Piece, a_literal, a_name, a_tok
 use Rattle.jsonc_sound.proofs.ShapeValues.{Mark, comma_mark, colon_mark, bracket_mark, close_bracket_mark, brace_mark, close_brace_mark}
 use Rattle.jsonc_edit.proofs.LeafKinds.{trivia_is}
 use Rattle.jsonc_edit.proofs.lemmas.commenting.Whole.{begins_block}
-use Rattle.jsonc_run.specs.texts.Edits.{is_bare}
+use Rattle.jsonc_run.specs.texts.Stretches.{is_bare}
 use Rattle.jsonc_run.specs.promise.PlaceLaws.{text_of_leaves}
 use Rattle.jsonc_run.proofs.lemmas.promise.Bare.{EndsBare}
 use Rattle.jsonc_run.proofs.lemmas.promise.CommasBehind.{literal_begins, name_begins}

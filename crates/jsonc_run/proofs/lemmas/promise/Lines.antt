@@ -1,5 +1,7 @@
 -- Where an array or object is put on several lines, in a text; and where commas are set.
 use Rattle.std.proofs.Common.{ℕ, ◌≡◌, ◌∙◌, sym, ap, subst, refl, Bool, true, false, ◌||◌, List, inl, inr, ◌⊎◌, [], ◌∷◌, ◌++◌, IsTrue, Option, chars}
+use Rattle.std.proofs.lemmas.Str.{chars-nil}
+use Rattle.std.proofs.lemmas.List.{append-nil}
 use Rattle.jsonc_text.specs.Options.{Options}
 use Rattle.jsonc_text.specs.Grammar.{IsDocument}
 use Rattle.jsonc_text.specs.Plain.{Plain}
@@ -29,10 +31,8 @@ use Rattle.jsonc_run.specs.texts.Stretches as documents
 use Rattle.jsonc_run.specs.texts.Edits as texts
 use Rattle.jsonc_run.specs.texts.Stretches.{Inside, Without, is_space}
 use Rattle.jsonc_run.specs.texts.Entering.{HasLineEnd, IsOnLines}
-use Rattle.jsonc_run.specs.texts.Edits.{Commas, Makes, SetsCommas, sets_some}
+use Rattle.jsonc_run.specs.texts.Edits.{Commas, Does, SetsCommas}
 use Rattle.jsonc_sound.specs.Leaves.{is_inner_blank}
-use Rattle.std.proofs.lemmas.Str.{chars-nil}
-use Rattle.std.proofs.lemmas.List.{append-nil}
 use Rattle.jsonc_run.proofs.lemmas.promise.Trivia.{first_text, piece_trivia}
 use Rattle.jsonc_run.specs.promise.PlaceLaws.{text_of_leaves, texts_of}
 use Rattle.jsonc_run.proofs.lemmas.promise.CommasByPaths.{come_on_lines}
@@ -48,8 +48,7 @@ use Rattle.jsonc_run.proofs.lemmas.promise.LinesInside.{line_inside}
 use Rattle.jsonc_run.proofs.lemmas.promise.PartLines.{parts_on_lines}
 use Rattle.jsonc_sort.proofs.Same.{document_same}
 use Rattle.jsonc_run.proofs.lemmas.promise.Leaves.{front_of, back_of, document_parts, document_parts_then, document_utf8, text_joined}
-use Rattle.jsonc_sound.specs.Documents.{all_marks}
-use Rattle.jsonc_sound.specs.Documents.{document_of}
+use Rattle.jsonc_sound.specs.Documents.{all_marks, document_of}
 use Rattle.jsonc_sound.proofs.SeamRows.{container_leaves}
 use Rattle.jsonc_run.proofs.lemmas.promise.Trailing.{loses_trailing}
 use Rattle.jsonc_run.proofs.lemmas.promise.ReflowedRows.{spread_texts}
@@ -149,7 +148,7 @@ lines_so o s r kind {row} (reflows.stays h) f d w = inl (ap printed_text (sym (d
 lines_so o s r kind {row} {new} (reflows.reflows e h k) f d w = inr (lacks_line o kind row s d e w, parts_on_lines o kind row new r d (f e) (still_lacks k (row_lacks_comments o kind row s d e)) w)
 
 pub multiline_made : (o : Options) (t u : OrderedTree) (w x : Option Plain) (path : List ℕ) → SoundTree o t → SoundTree o u → IsChanged w (texts.ensure_multiline path) x → tree_marks.marks u ≡ tree_marks.marks t → SpreadAt path t u
-    → Makes (document_of o t w) (texts.ensure_multiline path) (document_of o u x)
+    → Does (document_of o t w) (texts.ensure_multiline path) (document_of o u x)
 multiline_made o t u w _ path s r by_lines m a =
     let close : OrderedTree = token_then (closing a.kind) none in
     let same : texts_of (followed_by a.row close) ≡ texts_of (followed_by a.new close) = texts_followed a.row close ∙ ap (λ l. l ++ texts_of close) (spread_texts a.spreads) ∙ sym (texts_followed a.new close) in
@@ -175,7 +174,7 @@ multiline_made o t u w _ path s r by_lines m a =
     )
 
 -- commas alone have left, or come
-pub only_commas : (o : Options) (mode : TrailingCommaMode) {t u : OrderedTree} → SoundTree o t → SoundTree (allowing mode o) u → OnlyCommas mode t u → (w x : Option Plain) → Commas (sets_some mode) (document_of o t w) (document_of (allowing mode o) u x)
+pub only_commas : (o : Options) (mode : TrailingCommaMode) {t u : OrderedTree} → SoundTree o t → SoundTree (allowing mode o) u → OnlyCommas mode t u → (w x : Option Plain) → Commas mode (document_of o t w) (document_of (allowing mode o) u x)
 only_commas o Never s r h w x = loses_trailing o s h
 only_commas o IfMultiline s r h w x = (loses_trailing (allowing IfMultiline o) r (gains_loses h), come_on_lines o s r h w x)
 
@@ -183,7 +182,7 @@ pub same_by_commas : {path : List ℕ} {whole : Bool} {mode : TrailingCommaMode}
 same_by_commas by_commas = refl
 
 pub some_commas_made : (o : Options) (t u : OrderedTree) (w x : Option Plain) (path : List ℕ) (mode : TrailingCommaMode) → SoundTree o t → SoundTree (allowing mode o) u → x ≡ w → tree_marks.marks u ≡ tree_marks.marks t → OnlyCommas mode t u → (path ≡ []) ⊎ IsChangedAt path t u
-    → SetsCommas path (sets_some mode) (document_of o t w) (document_of (allowing mode o) u x)
+    → SetsCommas path mode (document_of o t w) (document_of (allowing mode o) u x)
 some_commas_made o t u w x path mode s r same m h place = (only_commas o mode s r h w x, (same, ap all_marks m), elim place [ inl whole ↦ inl whole | inr at ↦ inr (within_so o (allowing mode o) s r at.2 w x) ])
 
 -- all of them: none is left, or none is missing
@@ -196,6 +195,6 @@ set_at_path Never o path at a = gone.at_path at a
 set_at_path IfMultiline o path at a = missing.at_path at a
 
 pub commas_made : (o : Options) (t u : OrderedTree) (w x : Option Plain) (path : List ℕ) (mode : TrailingCommaMode) → SoundTree (allowing mode o) u → IsDocument (allowing mode o) (printed_text u) x
-    → SetsCommas path (sets_some mode) (document_of o t w) (document_of (allowing mode o) u x) → AreSet mode o path t u → Makes (document_of o t w) (texts.set_commas true path mode) (document_of (allowing mode o) u x)
+    → SetsCommas path mode (document_of o t w) (document_of (allowing mode o) u x) → AreSet mode o path t u → Does (document_of o t w) (texts.set_commas true path mode) (document_of (allowing mode o) u x)
 commas_made o t u w x path Never sound text sets set = (sets, none_left o path sound x text set)
 commas_made o t u w x path IfMultiline sound text sets set = (sets, all_trailing (allowing IfMultiline o) path sound x set)

@@ -26,8 +26,8 @@ use Rattle.jsonc_sound.specs.TriviaChanges.{AreTrivia, leaves_then}
 use Rattle.jsonc_sound.proofs.FirstNodes.{value_element}
 use Rattle.jsonc_sound.proofs.LooseLines.{Stops, value_stops, elements_stop, properties_stop, trivia_gap}
 use Rattle.jsonc_run.specs.texts.Entering.{NoCommaComes}
-use Rattle.jsonc_run.specs.texts.Edits.{Loose}
-use Rattle.jsonc_run.specs.texts.Edits as texts
+use Rattle.jsonc_run.specs.texts.Leaving.{Loose}
+use Rattle.jsonc_run.specs.texts.Leaving as leaving
 use Rattle.jsonc_sound.proofs.ShapeValues.{Mark, close_bracket_mark, close_brace_mark, closing_text, value_utf8, property_utf8, closed_some, separated_some, elements_some, properties_some, separated_stands, carries_more, node_text, value_stands, property_stands}
 use Rattle.jsonc_run.proofs.lemmas.promise.Values.{ValueHere}
 
@@ -133,8 +133,8 @@ module _ (o : Options) (kind : Kind) (z : List ℕ) where
   loose_to (more x w mid) before c b r (inr (is_a_comma e n0, reads)) h k = let n : IsTrue (not (is_comma (token 0x2C))) = subst (λ y. IsTrue (not (is_comma y))) e (and_both (not (is_comma x)) (has_no_comma mid) h).0 in cc
 
   pub loose_text : {target t : OrderedTree} → Stops target → LinesEndLoosely true false t → LooseTo target t → Loose o (printed_text t ++ z) (printed_text target ++ z)
-  loose_text s l (there g) = texts.gap (trivia_gap o z true false (λ e. cc) s g l).0
-  loose_text s l (past g st e k) = let m = trivia_gap o z true false (λ e. cc) st g l in texts.entry kind m.0 e (loose_text s m.1.2 k)
+  loose_text s l (there g) = leaving.gap (trivia_gap o z true false (λ e. cc) s g l).0
+  loose_text s l (past g st e k) = let m = trivia_gap o z true false (λ e. cc) st g l in leaving.entry kind m.0 e (loose_text s m.1.2 k)
 
   -- behind a stretch the row reads on, and its lines end
   pub reads_on : (s : OrderedTree) (content : Content) (below rest : OrderedTree) → Reads (followed_by s (more content below rest)) → Reads (more content below rest)

@@ -19,7 +19,7 @@ use Rattle.jsonc_run.specs.texts.Stretches.{written}
 use Rattle.jsonc_run.specs.texts.Layout.{IsLaidEntry}
 use Rattle.jsonc_run.specs.texts.Entering.{Gains}
 use Rattle.jsonc_run.proofs.lemmas.promise.LaidTexts.{is_laid_property}
-use Rattle.jsonc_run.specs.texts.Edits.{insert, Makes}
+use Rattle.jsonc_run.specs.texts.Edits.{insert, Does}
 use Rattle.jsonc_run.proofs.lemmas.promise.Insides.{kept_texts}
 use Rattle.jsonc_run.proofs.lemmas.promise.Joined.{Good, spread_good, spread_reflows, with_row}
 use Rattle.jsonc_run.proofs.lemmas.promise.Leaves.{back_of, front_of}
@@ -84,7 +84,7 @@ module _ (o : Options) {t u : OrderedTree} (s : SoundTree o t) (r : SoundTree o 
       )
 
 pub property_inserted : (o : Options) (t u : OrderedTree) (w x : Option Plain) (path : List ℕ) (i : ℕ) (new : Named) → IsCharacters new.name × IsOfTexts new.value → SoundTree o t → SoundTree o u → DocumentValueOf o t w → DocumentValueOf o u x → IsChanged w (insert an_object path i new) x
-    → PropertyInsertedAt o path i new.name new.value t u → Makes (document_of o t w) (insert an_object path i new) (document_of o u x)
+    → PropertyInsertedAt o path i new.name new.value t u → Does (document_of o t w) (insert an_object path i new) (document_of o u x)
 property_inserted o t u _ _ path i new f s r h h2 (by_inserting_member gains) c =
     let k = member_gained gains.comes in
     (k.front, k.back, k.place ∙ ap (λ n. min i n) (ap member_count k.before ∙ members_counted (k.front ++ k.back)), member_gains o s r f c h h2 gains.changed k (sym k.place))

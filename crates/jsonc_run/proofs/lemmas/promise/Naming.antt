@@ -30,7 +30,8 @@ use Rattle.jsonc_run.specs.Written.{IsChanged, by_name, RenamesProperty, propert
 use Rattle.jsonc_run.specs.texts.Paths.{Entry, Name, an_object}
 use Rattle.jsonc_run.specs.texts.Entries.{Named, members, of, Changed}
 use Rattle.jsonc_run.specs.texts.Edits as texts
-use Rattle.jsonc_run.specs.texts.Edits.{Alone, BecomesProperty, Makes, Puts, Text}
+use Rattle.jsonc_run.specs.texts.Edits.{Alone, BecomesProperty, Does, Puts}
+use Rattle.jsonc_run.specs.texts.Stretches.{Text}
 use Rattle.jsonc_run.specs.promise.PlaceLaws.{text_of_leaves}
 use Rattle.jsonc_run.proofs.lemmas.promise.Leaves.{row_back, back_of, text_joined, utf8_first, utf8_second}
 use Rattle.jsonc_run.proofs.lemmas.promise.Places.{document_itself, row_itself}
@@ -162,5 +163,5 @@ named_so (by_name path i {x = x} {y = y} g) =
     )
 
 pub name_made : (o : Options) (t u : OrderedTree) (w x : Option Plain) (path name : List ℕ) → IsCharacters name → SoundTree o t → SoundTree o u → IsChanged w (texts.rename_property path name) x → RenamesProperty name t u path
-    → Makes (document_of o t w) (texts.rename_property path name) (document_of o u x)
+    → Does (document_of o t w) (texts.rename_property path name) (document_of o u x)
 name_made o t u w x _ name texts s r c (property_renamed path i was rest f b h k) = (name_puts o name texts w x s r h k, named_so c)

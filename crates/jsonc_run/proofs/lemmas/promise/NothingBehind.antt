@@ -25,7 +25,7 @@ use Rattle.jsonc_edit.proofs.lemmas.remove.Contents.{comment_first, line_first}
 use Rattle.jsonc_edit.specs.SeamRemovals.{comment_comes, line_comes}
 use Rattle.jsonc_run.specs.texts.Commenting as lines
 use Rattle.jsonc_run.specs.texts.Commenting.{OnLine}
-use Rattle.jsonc_run.specs.texts.Edits.{CommentFollows}
+use Rattle.jsonc_run.specs.texts.Leaving.{CommentFollows}
 use Rattle.jsonc_run.specs.texts.Entering.{LineEnds}
 use Rattle.jsonc_run.specs.texts.Stretches as documents
 use Rattle.jsonc_run.specs.texts.Stretches.{IsLineEnd, is_space}

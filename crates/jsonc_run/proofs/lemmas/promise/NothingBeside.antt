@@ -21,7 +21,7 @@ use Rattle.jsonc_sound.specs.Spaces as trees
 use Rattle.jsonc_sound.proofs.Pieces.{Piece}
 use Rattle.jsonc_sound.proofs.Texts.{trivia_leaf}
 use Rattle.jsonc_edit.proofs.BeforeComments.{Firm, alone_firm, part_firm}
-use Rattle.jsonc_run.specs.texts.Edits.{EndsBeside}
+use Rattle.jsonc_run.specs.texts.Leaving.{EndsBeside}
 use Rattle.jsonc_run.specs.texts.Stretches.{is_space}
 use Rattle.jsonc_run.specs.promise.PlaceLaws.{text_of_leaves}
 use Rattle.jsonc_run.proofs.lemmas.promise.Bare.{AllSpelled, EndsBare, spelled_second}

@@ -1,9 +1,10 @@
 -- Changes of plain values, by entries.
-use Rattle.std.proofs.Common.{ℕ, suc, ◌≡◌, ap, subst, refl, List, [], ◌∷◌, ◌++◌, length}
+use Rattle.std.proofs.Common.{ℕ, suc, ◌≡◌, ap, subst, refl, sym, List, [], ◌∷◌, ◌++◌, length, Option, Some, None}
 use Rattle.jsonc_text.specs.Plain as plain
 use Rattle.jsonc_text.specs.Plain.{Plain, Items, no_items, item, Members, no_members, member}
 use Rattle.jsonc_sound.specs.Changes as changes
 use Rattle.jsonc_sound.specs.Changes.{ItemChanged, MemberChanged}
+use Rattle.jsonc_run.specs.Named.{StandsAt}
 use Rattle.jsonc_run.specs.texts.Paths.{Kind, an_array, an_object}
 use Rattle.jsonc_run.specs.texts.Entries.{Named, items, members, of, Changed, itself, inside}
 
@@ -80,3 +81,25 @@ pub changed : {was now : Plain} {path : List ℕ} {x y : Plain} → changes.Chan
 changed changes.itself = itself
 changed (changes.in_array k h) = step an_array (item_parts k) (changed h)
 changed (changes.in_object k h) = step an_object (member_parts k) (changed h)
+
+-- and the other way
+item_changed : (front back : List Named) (name : List ℕ) (x y : Plain) → ItemChanged x y (length front) (items (front ++ entry_of name x ∷ back)) (items (front ++ entry_of name y ∷ back))
+item_changed [] back name x y = changes.this_item
+item_changed (e ∷ front) back name x y = changes.later_item (item_changed front back name x y)
+
+member_changed : (front back : List Named) (name : List ℕ) (x y : Plain) → MemberChanged x y (length front) (members (front ++ entry_of name x ∷ back)) (members (front ++ entry_of name y ∷ back))
+member_changed [] back name x y = changes.this_member
+member_changed (e ∷ front) back name x y = changes.later_member (member_changed front back name x y)
+
+changed_by_steps : {was now : Plain} {path : List ℕ} {x y : Plain} → Changed was now path x y → changes.Changed was now path x y
+changed_by_steps itself = changes.itself
+changed_by_steps (inside an_array front back name {x = x} {y = y} h) = changes.in_array (item_changed front back name x y) (changed_by_steps h)
+changed_by_steps (inside an_object front back name {x = x} {y = y} h) = changes.in_object (member_changed front back name x y) (changed_by_steps h)
+
+-- so what stands at a path may be replaced there by itself
+pub stands_there : {v : Plain} {path : List ℕ} {w : Option Plain} (x : Plain) → w ≡ Some x → changes.Changed v v path x x → StandsAt v path w
+stands_there {v} {path} x is h = let here : StandsAt v path (Some x) = changed h in subst (StandsAt v path) (sym is) here
+
+pub what_stands : {v : Plain} {path : List ℕ} (w : Option Plain) → StandsAt v path w → (x : Plain) × (w ≡ Some x) × changes.Changed v v path x x
+what_stands (Some x) h = (x, refl, changed_by_steps h)
+what_stands None h = absurd h

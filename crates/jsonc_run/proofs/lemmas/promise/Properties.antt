@@ -1,5 +1,5 @@
 -- Where a property is replaced by another in a sound tree, it is replaced so in the text.
-use Rattle.std.proofs.Common.{ℕ, suc, ◌≡◌, ◌∙◌, sym, ap, subst, refl, inl, true, List, [], ◌∷◌, ◌++◌, length, Option}
+use Rattle.std.proofs.Common.{ℕ, suc, ◌≡◌, ◌∙◌, sym, ap, subst, refl, inl, true, List, [], ◌∷◌, ◌++◌, length, IsTrue, Option, None}
 use Rattle.std.proofs.lemmas.List.{append_assoc}
 use Rattle.jsonc_text.specs.Options.{Options}
 use Rattle.jsonc_text.specs.Plain as plain
@@ -22,19 +22,23 @@ use Rattle.jsonc_edit.specs.SeamPlaces.{RowHolds, this_element, past_other, past
 use Rattle.jsonc_edit.specs.Seams.{space_if}
 use Rattle.jsonc_edit.specs.set.Giving.{is_bare_value}
 use Rattle.jsonc_edit.proofs.lemmas.set.PropertyRows.{object_row}
-use Rattle.jsonc_text.specs.Marks.{Mark}
-use Rattle.jsonc_layout.specs.from_input.Laid.{laid_property, number_leaf, string_leaf}
+use Rattle.jsonc_text.specs.Marks.{Mark, literals_of}
+use Rattle.jsonc_text.specs.Spelling as spelling
+use Rattle.jsonc_layout.specs.from_input.Laid.{laid, laid_property, number_leaf, string_leaf}
 use Rattle.jsonc_layout.specs.from_input.Layout.{Layout}
 use Rattle.jsonc_layout.specs.from_input.Texts.{IsCharacters, IsOfTexts}
 use Rattle.jsonc_run.specs.texts.Paths.{Entry, an_object}
 use Rattle.jsonc_run.specs.texts.Entries.{Named, members, of, Changed}
 use Rattle.jsonc_run.specs.texts.Edits as texts
-use Rattle.jsonc_run.specs.texts.Stretches.{written}
-use Rattle.jsonc_run.specs.texts.Edits.{Anything, BecomesProperty, IsSeam, Makes, Puts, Text}
+use Rattle.jsonc_run.specs.texts.Stretches.{written, IsSeam, Text}
+use Rattle.jsonc_run.specs.texts.Edits.{Anything, BecomesProperty, Makes, Puts, is_odd_blank, text_of_marks}
 use Rattle.jsonc_run.specs.promise.PlaceLaws.{text_of_leaves}
 use Rattle.jsonc_run.proofs.lemmas.promise.Leaves.{back_of, document_parts, document_utf8, text_joined, utf8_first, utf8_second}
 use Rattle.jsonc_run.specs.texts.Layout.{IsLaidEntry}
-use Rattle.jsonc_run.proofs.lemmas.promise.LaidTexts.{is_laid_property}
+use Rattle.jsonc_run.proofs.lemmas.promise.LaidTexts.{in_text, is_laid_property, laid_prints, named_so, node_text}
+use Rattle.jsonc_run.proofs.lemmas.promise.BlanksCome.{Lacks, lacks_first, lacks_second, no_blank_comes, text_lacks}
+use Rattle.jsonc_run.proofs.lemmas.promise.BlanksLaid.{laid_lacks, named_lacks}
+use Rattle.jsonc_run.proofs.lemmas.promise.BlanksTold.{told_lacks}
 use Rattle.jsonc_run.proofs.lemmas.promise.Plains.{changed, entry_of, list_of_members, same_members}
 use Rattle.jsonc_run.proofs.lemmas.promise.StretchElements.{Reached}
 use Rattle.jsonc_run.proofs.lemmas.promise.RemovedTexts.{entry_begins, entry_there}
@@ -216,9 +220,21 @@ gives (by_property path i {x = x} {y = y} g) =
 
 puts : (o : Options) (t u : OrderedTree) (w x : Option Plain) (path name : List ℕ) (v : Plain) → IsCharacters name × IsOfTexts v → SoundTree o t → SoundTree o u → ReplacesProperty name v t u path
     → Puts Anything (Entry path) (IsLaidEntry an_object (entry_of name v)) (written an_object (entry_of name v)) (document_of o t w) (document_of o u x)
-puts o t u w x _ name v f s r (property_given path i layout spaced front old back p c d seam bare) =
+puts o t u w x _ name v f s r (property_given path i layout spaced front old back p c d seam bare told) =
     property_puts o s r seam w x (written an_object (entry_of name v)) (laid_property_literals layout name v f.0 f.1) (is_laid_property o layout name v f.0 f.1) (λ e. property_ends layout name v (bare e))
+
+-- and brings no blank
+property_lacks : (c : ℕ) → IsTrue (is_odd_blank c) → (o : Options) {t u : OrderedTree} → SoundTree o t → SoundTree o u → (path name : List ℕ) (v : Plain) → IsCharacters name → IsOfTexts v → ReplacesProperty name v t u path → Lacks c (printed_text t)
+    → Lacks c (text_of_marks (written an_object (entry_of name v))) → Lacks c (printed_text u)
+property_lacks c odd o {t} {u} s r _ name v characters ofs (property_given path i layout spaced front was back p q d seam bare told) h k =
+    let value : Lacks c (text_of_marks (literals_of v)) = lacks_second c (spelling.spelled name) (text_of_marks (literals_of v)) k in
+    let put : Puts Anything (Entry (path ++ i ∷ [])) (Lacks c) (written an_object (entry_of name v)) (document_of o t None) (document_of o u None) =
+    property_puts o s r seam None None (written an_object (entry_of name v)) (laid_property_literals layout name v characters ofs) (λ pieces utf8.
+    let m = named_so name (laid layout v) characters utf8 in
+    subst (Lacks c) (sym m.text_is) (named_lacks c odd name (node_text (laid layout v)) (lacks_first c (spelling.spelled name) (text_of_marks (literals_of v)) k)
+    (subst (Lacks c) (sym (laid_prints layout v ofs m.own)) (laid_lacks c odd (in_text layout) (told_lacks c odd t layout told h) v value)))) (λ e. property_ends layout name v (bare e)) in
+    text_lacks c odd put.6 put.8 h
 
 pub property_replaced : (o : Options) (t u : OrderedTree) (w x : Option Plain) (path name : List ℕ) (v : Plain) → IsCharacters name × IsOfTexts v → SoundTree o t → SoundTree o u → IsChanged w (texts.replace_property path (entry_of name v)) x
     → ReplacesProperty name v t u path → Makes (document_of o t w) (texts.replace_property path (entry_of name v)) (document_of o u x)
-property_replaced o t u w x path name v f s r c given = (puts o t u w x path name v f s r given, gives c)
+property_replaced o t u w x path name v f s r c given = ((puts o t u w x path name v f s r given, gives c), no_blank_comes (document_of o t w) (written an_object (entry_of name v)) (document_of o u x) (λ c odd h k. property_lacks c odd o s r path name v f.0 f.1 given h k))

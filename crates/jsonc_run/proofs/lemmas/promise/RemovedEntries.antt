@@ -16,7 +16,7 @@ use Rattle.jsonc_edit.proofs.OneValue.{document_once}
 use Rattle.jsonc_edit.proofs.SoundValues.{some_value}
 use Rattle.jsonc_run.specs.texts.Paths.{Kind, an_array, an_object}
 use Rattle.jsonc_run.specs.texts.Entries.{Named, of, Changed}
-use Rattle.jsonc_run.specs.texts.Edits.{Loses, one}
+use Rattle.jsonc_run.specs.texts.Leaving.{Loses, one}
 use Rattle.jsonc_run.proofs.lemmas.promise.Plains.{changed, entry_of, list_of_items, list_of_members, same_items, same_members, items_of, members_of}
 
 record Lost (kind : Kind) (i : ℕ) (x y : Plain) : Type 0 where

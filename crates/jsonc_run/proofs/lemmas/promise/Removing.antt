@@ -34,7 +34,8 @@ use Rattle.jsonc_edit.specs.SeamRemovals.{NoCommentLeft, NoLineLeft, SpaceFirst,
 use Rattle.jsonc_edit.specs.SeamPlaces.{DocumentHolds}
 use Rattle.jsonc_edit.specs.Seams.{PrintNothing, space_if}
 use Rattle.jsonc_run.specs.texts.Paths.{Entry}
-use Rattle.jsonc_run.specs.texts.Edits.{IsSeam, Comma, EndsBeside, Leaves, Loses, Trail}
+use Rattle.jsonc_run.specs.texts.Leaving.{Comma, EndsBeside, Leaves, Loses, Trail}
+use Rattle.jsonc_run.specs.texts.Stretches.{IsSeam}
 use Rattle.jsonc_run.specs.promise.PlaceLaws.{text_of_leaves}
 use Rattle.jsonc_run.proofs.lemmas.promise.CommentTexts.{blanks_text}
 use Rattle.jsonc_run.proofs.lemmas.promise.Joined.{Good, good_as, good_first, good_second, good_tree}

@@ -29,7 +29,8 @@ use Rattle.jsonc_text.specs.Marks.{Mark, literals_of}
 use Rattle.jsonc_run.specs.texts.Paths.{Value}
 use Rattle.jsonc_run.specs.texts.Entries.{Becomes}
 use Rattle.jsonc_run.specs.texts.Layout.{IsLaid}
-use Rattle.jsonc_run.specs.texts.Edits.{BesideTruth, EndsInHexadecimal, IsSeam, Puts, PutsValue, Text}
+use Rattle.jsonc_run.specs.texts.Edits.{BesideTruth, EndsInHexadecimal, Puts, PutsValue}
+use Rattle.jsonc_run.specs.texts.Stretches.{IsSeam, Text}
 use Rattle.jsonc_run.specs.promise.PlaceLaws.{text_of_leaves}
 use Rattle.jsonc_sound.specs.Adjacent.{last_printed}
 use Rattle.jsonc_sound.specs.Booleans.{is_hex_leaf}

@@ -31,11 +31,11 @@ use Rattle.jsonc_text.proofs.UniqueGaps.{gap_unique}
 use Rattle.jsonc_sound.specs.Lines.{LinesEndLoosely, DocumentLinesEndLoosely}
 use Rattle.jsonc_sound.proofs.LooseLines.{trivia_gap, value_stops}
 use Rattle.std.proofs.lemmas.Str.{chars-nil}
-use Rattle.jsonc_run.specs.texts.Edits as texts
+use Rattle.jsonc_run.specs.texts.Leaving as leaving
 use Rattle.jsonc_run.specs.texts.Entering.{NoCommaComes}
 use Rattle.jsonc_edit.specs.SeamRemovals.{NoCommentLeft}
 use Rattle.jsonc_edit.specs.remove.Laws.{StaysNone}
-use Rattle.jsonc_run.specs.texts.Edits.{EndsBeside, Leaves, Trail}
+use Rattle.jsonc_run.specs.texts.Leaving.{EndsBeside, Leaves, Trail}
 use Rattle.jsonc_run.specs.promise.PlaceLaws.{text_of_leaves}
 use Rattle.jsonc_run.proofs.lemmas.promise.CommentTexts.{blanks_text}
 use Rattle.jsonc_run.proofs.lemmas.promise.Closing.{blanks_first, blanks_second}
@@ -175,7 +175,7 @@ module _ (o : Options) where
         beside_text o lead beside (pieces_first o lead (own ++ (line ++ (tail ++ back))) p2),
         alone_ahead,
         subst (λ x. Trail x false (text_of_leaves line)) (text_cons tail back u5 refl) trail_of,
-        texts.none not_behind texts.the_text (texts.gap gap_there),
+        leaving.none not_behind leaving.the_text (leaving.gap gap_there),
         blanks_text o mid are (pieces_first o mid (lead ++ (own ++ (line ++ (tail ++ back)))) p1),
         blanks_text o tail are_too (pieces_first o tail back p5),
         inl refl,

@@ -37,11 +37,10 @@ use Rattle.jsonc_run.specs.texts.Paths.{Value}
 use Rattle.jsonc_run.specs.texts.Edits as texts
 use Rattle.jsonc_run.specs.texts.Stretches.{EndsInComment, IsLineEnd}
 use Rattle.jsonc_run.specs.texts.Layout.{IsLaid}
-use Rattle.jsonc_run.specs.texts.Edits.{ComesFirst, Makes}
+use Rattle.jsonc_run.specs.texts.Edits.{ComesFirst, Does}
 use Rattle.jsonc_run.specs.promise.PlaceLaws.{text_of_leaves}
 use Rattle.jsonc_run.proofs.lemmas.promise.Leaves.{text_joined, utf8_first, utf8_second}
-use Rattle.jsonc_sound.specs.Documents.{all_marks}
-use Rattle.jsonc_sound.specs.Documents.{document_of}
+use Rattle.jsonc_sound.specs.Documents.{all_marks, document_of}
 use Rattle.jsonc_sound.proofs.RootRows.{joined_trivia, leaves_then_joined, root_alone, root_lines, trivia_of}
 use Rattle.jsonc_run.proofs.lemmas.promise.Stretches.{pieces_first, pieces_second, blanks_behind_unmarked, laid_literals, marks_in, marks_in_both, parted, parted_as}
 use Rattle.jsonc_run.proofs.lemmas.promise.Trivia.{line_end_text}
@@ -144,5 +143,5 @@ module _ (o : Options) {t u : OrderedTree} (s : SoundTree o t) (r : SoundTree o 
       let come = first_come o top v comes element (subst (SoundTree o) was s) (subst (SoundTree o) is r) w x old new (laid_literals layout v texts) (is_laid o layout v texts) in
       subst (λ (z : OrderedTree). ComesFirst v (document_of o z w) (document_of o u x)) (sym was) (subst (λ (z : OrderedTree). ComesFirst v (document_of o (root_with row) w) (document_of o z x)) (sym is) come)
 
-pub root_cleared : (o : Options) (t u : OrderedTree) (w x : Option Plain) → IsChanged w texts.clear_root x → u ≡ root_with none → Makes (document_of o t w) texts.clear_root (document_of o u x)
+pub root_cleared : (o : Options) (t u : OrderedTree) (w x : Option Plain) → IsChanged w texts.clear_root x → u ≡ root_with none → Does (document_of o t w) texts.clear_root (document_of o u x)
 root_cleared o t u w _ by_clearing same = (ap printed_text same ∙ chars-nil, refl)

@@ -1,6 +1,6 @@
 -- What stays above an entry as a header where the entries of a row are sorted, in the text: spaces, or a blank line is there.
 use Rattle.std.proofs.Common.{◌≡◌, ℕ, zero, suc, ◌+◌, ◌≤◌, Bool, true, false, cond, ◌&&◌, ◌||◌, List, [], ◌∷◌, ◌++◌, length, take, drop, Option, Some, None, IsTrue, refl, sym, ap, subst, ◌∙◌, arith, inl, inr}
-use Rattle.std.specs.Prelude.{nat_le, if◌then◌else◌}
+use Rattle.std.specs.Prelude.{nat_le}
 use Rattle.std.specs.List.{prefix_len}
 use Rattle.std.proofs.lemmas.Bool.{cases_Bool, leb-true}
 use Rattle.std.proofs.lemmas.List.{append_assoc, take-append-drop}
@@ -17,7 +17,7 @@ use Rattle.jsonc_sort.specs.Above.{pins_none}
 use Rattle.jsonc_sort.specs.Laws.{content_of}
 use Rattle.jsonc_sort.specs.Leads.{begins_group, blank_lines, comments, has_blank_line, header_by, header_length, header_of, is_blank_at, is_comment_at, line_ends}
 use Rattle.jsonc_sort.specs.Parts.{is_newline_at, is_whitespace_at, up_to_spaces}
-use Rattle.jsonc_sort.proofs.Choices.{Each, choose_by, each_drop, each_take}
+use Rattle.jsonc_sort.proofs.Choices.{Each, choose_by, each_take}
 use Rattle.jsonc_sort.proofs.Runs.{IsQuiet, Quiets}
 use Rattle.jsonc_run.specs.texts.Stretches.{AreSpaces, HasBlankLine, IsLineEnd}
 use Rattle.jsonc_run.specs.texts.Sorting.{StaysAbove}

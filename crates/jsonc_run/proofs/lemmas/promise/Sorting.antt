@@ -51,7 +51,7 @@ use Rattle.jsonc_run.specs.texts.Paths.{an_array, an_object, Value, HasEntries}
 use Rattle.jsonc_run.specs.texts.Entries.{Named, items, members, of, Changed}
 use Rattle.jsonc_run.specs.texts.Edits as texts
 use Rattle.jsonc_run.specs.texts.Sorting.{Held, Holds, LinesEnd, Moves, Placed, ends_with_comma, no_entry, row}
-use Rattle.jsonc_run.specs.texts.Edits.{Makes}
+use Rattle.jsonc_run.specs.texts.Edits.{Does}
 use Rattle.jsonc_run.specs.promise.PlaceLaws.{node_chars, text_of_leaves, texts_of}
 use Rattle.jsonc_run.proofs.lemmas.promise.Entries.{element_text, has_entries, over_text}
 use Rattle.jsonc_run.proofs.lemmas.promise.Joined.{close_text, open_text}
@@ -61,9 +61,8 @@ use Rattle.jsonc_run.proofs.lemmas.promise.SortedEntries.{are_entries, held_of, 
 use Rattle.jsonc_run.proofs.lemmas.promise.SortedParts.{said, said_joined, said_nodes, say}
 use Rattle.jsonc_run.proofs.lemmas.promise.SortedTexts.{lines_said, placed_said}
 use Rattle.jsonc_run.proofs.lemmas.promise.Values.{at_the_place, node_leaves}
-use Rattle.jsonc_sound.specs.Documents.{all_marks, mark}
+use Rattle.jsonc_sound.specs.Documents.{all_marks, mark, document_of}
 use Rattle.jsonc_run.proofs.lemmas.promise.Plains.{changed, list_of_items, same_items, list_of_members, same_members}
-use Rattle.jsonc_sound.specs.Documents.{document_of}
 use Rattle.jsonc_run.proofs.lemmas.promise.Held.{items_held, members_held, right_so}
 use Rattle.jsonc_sort.proofs.Values.{elements, row_elements, sorted_elements, none_is}
 
@@ -376,7 +375,7 @@ module _ (o : Options) {t u : OrderedTree} {x y : Plain} (by_blank_lines : Bool)
   outcome_as : (k : places.Kind) → k ≡ kind_of_row a.kind → Outcome k order
   outcome_as k e = subst (λ k. Outcome k order) (sym e) outcome
 
-  pub sorted_so : SortsEntries path order x y → Makes (document_of o t (Some x)) (texts.rearrange by_blank_lines path order) (document_of o u (Some y))
+  pub sorted_so : SortsEntries path order x y → Does (document_of o t (Some x)) (texts.rearrange by_blank_lines path order) (document_of o u (Some y))
   sorted_so (sorts_items {vs = vs} c) =
       let entries : List Named = list_of_items vs in (
         an_array,
@@ -397,5 +396,5 @@ module _ (o : Options) {t u : OrderedTree} {x y : Plain} (by_blank_lines : Bool)
       )
 
 pub rearranged : (o : Options) (t u : OrderedTree) (w x : Option Plain) (by_blank_lines : Bool) (path order : List ℕ) → SoundTree o t → SoundTree o u → DocumentValueOf o t w → DocumentValueOf o u x → IsChanged w (texts.rearrange by_blank_lines path order) x
-    → ((test : tree_marks.Mark → Bool) → count_by test (tree_marks.marks u) ≡ count_by test (tree_marks.marks t)) → (a : SortedAt path order t u) → (by_blank_lines ≡ true → PinsIn a) → Makes (document_of o t w) (texts.rearrange by_blank_lines path order) (document_of o u x)
+    → ((test : tree_marks.Mark → Bool) → count_by test (tree_marks.marks u) ≡ count_by test (tree_marks.marks t)) → (a : SortedAt path order t u) → (by_blank_lines ≡ true → PinsIn a) → Does (document_of o t w) (texts.rearrange by_blank_lines path order) (document_of o u x)
 rearranged o t u _ _ by_blank_lines path order s r h k (by_sorting e) m a pinned = sorted_so o by_blank_lines path order s r h k m a pinned e

@@ -10,8 +10,8 @@ use Rattle.jsonc_sound.proofs.Pieces.{LinesFlat, Pieces}
 use Rattle.jsonc_sound.proofs.Texts.{AllUtf8}
 use Rattle.jsonc_edit.proofs.lemmas.remove.Contents.{comment_first, line_first}
 use Rattle.jsonc_edit.specs.SeamRemovals.{EndsLine}
-use Rattle.jsonc_run.specs.texts.Edits as texts
-use Rattle.jsonc_run.specs.texts.Edits.{Trail}
+use Rattle.jsonc_run.specs.texts.Leaving as leaving
+use Rattle.jsonc_run.specs.texts.Leaving.{Trail}
 use Rattle.jsonc_run.specs.promise.PlaceLaws.{text_of_leaves}
 use Rattle.jsonc_run.proofs.lemmas.promise.Joined.{Good}
 use Rattle.jsonc_run.proofs.lemmas.promise.Leaves.{text_joined, utf8_first, utf8_second}
@@ -65,12 +65,12 @@ module _ (o : Options) where
 
     rest_text : {line : List Content} → IsRestOfLine line → NoneLeft line rest → Pieces o line → AllUtf8 line → Then false (text_of_leaves line)
     rest_text (without_end line h) (inl e) p u = absurd (no_newline line h e)
-    rest_text (without_end line h) (inr e) p u = texts.all_comments (beside_text o line h p) (no_comment_follows o rest e good)
+    rest_text (without_end line h) (inr e) p u = leaving.all_comments (beside_text o line h p) (no_comment_follows o rest e good)
     rest_text (with_end line end h n) left p u =
-        subst (Then false) (sym (text_joined line (end ∷ []) (utf8_first line (end ∷ []) u))) (texts.rest_of_line (beside_text o line h (pieces_first o line (end ∷ []) p)) (end_text end n))
+        subst (Then false) (sym (text_joined line (end ∷ []) (utf8_first line (end ∷ []) u))) (leaving.rest_of_line (beside_text o line h (pieces_first o line (end ∷ []) p)) (end_text end n))
 
     alone_text : (between : List Content) → InlineOr between → (AreInlineTrivia between → (line_first rest ≡ false) × (stops rest ≡ true)) → Pieces o between → AllUtf8 between → Then true (text_of_leaves between ++ 0x2C ∷ [])
-    alone_text between (inline h) left p u = let l = left h in texts.up_to_comma (beside_text o between h p) (no_line_ends o rest l.0 l.1 flat good)
+    alone_text between (inline h) left p u = let l = left h in leaving.up_to_comma (beside_text o between h p) (no_line_ends o rest l.0 l.1 flat good)
     alone_text between (on_lines front back k e f g) left p u =
         let p2 = subst (Pieces o) e p in
         let u2 = subst AllUtf8 e u in
@@ -79,7 +79,7 @@ module _ (o : Options) where
         let text : text_of_leaves between ≡ text_of_leaves front ++ (text_of_leaves (Content.newline k ∷ []) ++ text_of_leaves back) =
         ap text_of_leaves e ∙ text_joined front (Content.newline k ∷ back) (utf8_first front (Content.newline k ∷ back) u2) ∙ ap (λ l. text_of_leaves front ++ l) (text_joined (Content.newline k ∷ []) back (later.0, tt)) in
         subst (λ x. Then true (x ++ 0x2C ∷ [])) (sym text)
-        (texts.past_lines (trivia_text o front f (pieces_first o front (Content.newline k ∷ back) p2)) (end_text (Content.newline k) refl) (trivia_text o back g behind.1))
+        (leaving.past_lines (trivia_text o front f (pieces_first o front (Content.newline k ∷ back) p2)) (end_text (Content.newline k) refl) (trivia_text o back g behind.1))
 
   pub trail_text : (rest : List Content) → LinesFlat rest → Good o rest → {b : Bool} {c m line : List Content} (commas : Commas b c m line) → CommasLeft commas rest → Pieces o line → AllUtf8 line → Trail (text_of_leaves rest) b (text_of_leaves line)
   trail_text rest flat good (behind_it (comma_alone between t)) left p u =
@@ -92,6 +92,6 @@ module _ (o : Options) where
       text_joined between (token 0x2C ∷ tail) (utf8_first between (token 0x2C ∷ tail) u)
       ∙ ap (λ l. text_of_leaves between ++ l) (comma_then o tail later ∙ ap (λ l. 0x2C ∷ l) (text_joined line (end ∷ []) (utf8_first line (end ∷ []) later.1))) in
       let second = pieces_second o between (token 0x2C ∷ tail) p in
-      subst (Trail (text_of_leaves rest) true) (sym text) (texts.and_line (beside_text o between b (pieces_first o between (token 0x2C ∷ tail) p)) (beside_text o line h (pieces_first o line (end ∷ []) second.1)) (end_text end n))
+      subst (Trail (text_of_leaves rest) true) (sym text) (leaving.and_line (beside_text o between b (pieces_first o between (token 0x2C ∷ tail) p)) (beside_text o line h (pieces_first o line (end ∷ []) second.1)) (end_text end n))
   trail_text rest flat good (ahead_of_it mid rl) left p u = rest_text rest flat good rl left p u
   trail_text rest flat good (nowhere rl) left p u = rest_text rest flat good rl left p u
