@@ -28,10 +28,10 @@ pub fn push_readings(
 
 /// How lines end, what one level of indent adds, and where the value stands.
 fn push_document(out: &mut String, doc: &CstRootNode<Global>) -> Result<(), AllocError> {
-    let (Ok(kind), Ok(single)) = (doc.newline_kind(), doc.single_indent_text()) else {
+    let Ok(single) = doc.single_indent_text() else {
         return Err(AllocError);
     };
-    let name = match kind {
+    let name = match doc.newline_kind() {
         CstNewlineKind::LineFeed => "LF",
         CstNewlineKind::CarriageReturnLineFeed => "CRLF",
         CstNewlineKind::CarriageReturn => "CR",
@@ -110,7 +110,7 @@ fn depth_of(doc: &CstRootNode<Global>, node: CstNode) -> usize
 fn push_layout(out: &mut String, doc: &CstRootNode<Global>, node: CstNode) -> Result<(), AllocError>
     requires { HasNode doc.now node }
 {
-    let (Ok(indent), Ok(uses)) = (node.indent_text(doc), node.uses_trailing_commas(doc)) else {
+    let Ok(indent) = node.indent_text(doc) else {
         return Err(AllocError);
     };
     push_text(out, &indent)?;
@@ -119,7 +119,7 @@ fn push_layout(out: &mut String, doc: &CstRootNode<Global>, node: CstNode) -> Re
         Some(comma) => write!(out, "{}", CstNode::from(comma).child_index(doc))?,
         None => out.push('-')?,
     }
-    write!(out, " ut={}", digit(uses))
+    write!(out, " ut={}", digit(node.uses_trailing_commas(doc)))
 }
 
 fn push_comments(

@@ -36,8 +36,8 @@ pub fn layout_for<A: Allocator + Copy>(
 {
     let indents = indents_at(alloc, tree, container)?;
     let teller = commas_told_by(tree, container, node);
-    let trailing_commas = uses_trailing_commas(alloc, tree, teller)?;
-    let newline = newline_kind_at(alloc, tree, container)?;
+    let trailing_commas = uses_trailing_commas(tree, teller);
+    let newline = newline_kind_at(tree, container);
     Ok(Layout {
         current: indents.current,
         single: indents.single,

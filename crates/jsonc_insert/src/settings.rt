@@ -1,4 +1,4 @@
-//! What a document tells of what comes into a container, read in the tree as it is.
+//! What a document tells of what is inserted into a container, read in the tree as it is.
 
 ghost use Rattle.std.specs.Prelude.{◌≡◌, ◌<◌, IfOk, chars, length, option_map, string_bytes};
 ghost use Rattle.jsonc_tree.specs.Tree.{children_at};
@@ -15,7 +15,7 @@ use jsonc_layout::nodes::element_at;
 use jsonc_tree::Tree;
 use std::alloc::{AllocError, Allocator};
 
-/// Whether a value, or a property of a name, comes on a line of its own into a container.
+/// Whether a value, or a property of a name, is put on a line of its own in a container.
 pub(crate) fn on_several_lines<A: Allocator>(
     tree: &Tree<A>,
     container: usize,
@@ -70,7 +70,7 @@ pub(crate) fn outer_indent<A: Allocator + Copy>(
     Ok(indents.current)
 }
 
-/// How what comes into a container is laid out.
+/// How what is inserted into a container is laid out.
 pub(crate) fn layout_inside<A: Allocator + Copy>(
     alloc: A,
     tree: &Tree<A>,
@@ -80,8 +80,8 @@ pub(crate) fn layout_inside<A: Allocator + Copy>(
     ensures { IfOk result (λ l. layout_of l ≡ layout_inside tree.now.nodes container) }
 {
     let indents = indents_inside(alloc, tree, container)?;
-    let trailing_commas = uses_trailing_commas(alloc, tree, container)?;
-    let newline = newline_kind_at(alloc, tree, container)?;
+    let trailing_commas = uses_trailing_commas(tree, container);
+    let newline = newline_kind_at(tree, container);
     Ok(Layout {
         current: indents.current,
         single: indents.single,

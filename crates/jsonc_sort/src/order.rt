@@ -54,7 +54,7 @@ fn sorted_row<A: Allocator + Copy>(
         (λ v. PlansSort tree.old.nodes tree.new.nodes container (headers_of pinned.now groups) order.now v.items) }
     ensures prepared { Extends tree.old.nodes tree.new.nodes }
 {
-    let newline = newline_kind_at(alloc, tree, container)?;
+    let newline = newline_kind_at(tree, container);
     let children = children(alloc, tree, container)?;
     let row = &children[1..children.len() - 1];
     let entries = entries(alloc, tree, row, pinned, groups)?;
@@ -62,10 +62,10 @@ fn sorted_row<A: Allocator + Copy>(
     Ok(sorted)
 }
 
-/// Lets the elements of an array, or the properties of an object, come in another order, which names the
-/// old number of each.
+/// Puts the elements of an array, or the properties of an object, in another order, which names the old
+/// number of each.
 ///
-/// What belongs to an element goes with it: its comma, the comments behind it on its line, and those
+/// What belongs to an element goes with it: its comma, the comments after it on its line, and those
 /// above it, but for so many as are pinned before it; where groups are kept, all above an element with a
 /// blank line before it stay. Each element but the last gets a comma, and the last keeps or loses one as
 /// the last had one. Where nothing moves, nothing changes. All memory is asked for before the row

@@ -1,6 +1,6 @@
 //! How a document is laid out.
 
-ghost use Rattle.std.specs.Prelude.{◌≡◌, map, option_map, string_bytes, IfErr, IfOk, IsOk};
+ghost use Rattle.std.specs.Prelude.{◌≡◌, map, option_map, string_bytes, IfErr, IfOk};
 ghost use Rattle.jsonc_layout.specs.lines.Breadth.{newline_kind_of};
 ghost use Rattle.jsonc_cst.specs.Document.{nodes_of};
 ghost use Rattle.jsonc_cst.specs.Layout.{level_indent};
@@ -41,15 +41,10 @@ impl<A: Allocator + Copy> CstRootNode<A> {
 
     /// How the document's lines end.
     ///
-    /// They end as the first of them, level after level from the root down, or by LF. No memory is needed.
-    pub fn newline_kind(&self) -> Result<CstNewlineKind, EditError>
-        ensures kind { IfOk result (λ kind. kind ≡ newline_kind_of (nodes_of self.now)) }
-        ensures memory { IfErr result (λ e. e ≡ EditError.OutOfMemory) }
-        ensures ok { IsOk result }
+    /// They end as the first of them, level after level from the root down, or by LF.
+    pub fn newline_kind(&self) -> CstNewlineKind
+        ensures { result ≡ newline_kind_of (nodes_of self.now) }
     {
-        let Ok(kind) = jsonc_layout::lines::newline_kind(self.alloc, &self.tree) else {
-            return Err(EditError::OutOfMemory);
-        };
-        Ok(kind)
+        jsonc_layout::lines::newline_kind(&self.tree)
     }
 }

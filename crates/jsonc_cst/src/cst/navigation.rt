@@ -1,7 +1,7 @@
 //! The calls that every kind of node has: what is above, beside and below it, how it is laid out, and what it
 //! prints and gives.
 
-ghost use Rattle.std.specs.Prelude.{◌≡◌, option_map, string_bytes, IfErr, IfOk, IfSome, IsOk, OnErr};
+ghost use Rattle.std.specs.Prelude.{◌≡◌, option_map, string_bytes, IfErr, IfOk, IfSome, OnErr};
 ghost use Rattle.std.specs.List.{All, slice_get};
 ghost use Rattle.jsonc_layout.specs.lines.Lines.{blank_line_before};
 ghost use Rattle.jsonc_layout.specs.to_input.Wanted.{MayTakeMemory};
@@ -196,22 +196,12 @@ pub trait TypedNode: Copy {
     /// last element.
     ///
     /// Laid out is one that has whitespace between its brackets and an element, and the nearest is
-    /// the first of them, level after level. False where there is none. No memory is needed.
-    final fn uses_trailing_commas<A: Allocator + Copy>(
-        self,
-        doc: &CstRootNode<A>,
-    ) -> Result<bool, EditError>
+    /// the first of them, level after level. False where there is none.
+    final fn uses_trailing_commas<A: Allocator + Copy>(self, doc: &CstRootNode<A>) -> bool
         requires { HasNode doc.now (node_of self) }
-        ensures uses { IfOk result (λ uses. uses ≡ uses_trailing_commas_of doc.now (node_of self)) }
-        ensures memory { IfErr result (λ e. e ≡ EditError.OutOfMemory) }
-        ensures ok { IsOk result }
+        ensures { result ≡ uses_trailing_commas_of doc.now (node_of self) }
     {
-        let number = self.node().number();
-        let Ok(uses) = jsonc_layout::lines::uses_trailing_commas(doc.alloc, &doc.tree, number)
-        else {
-            return Err(EditError::OutOfMemory);
-        };
-        Ok(uses)
+        jsonc_layout::lines::uses_trailing_commas(&doc.tree, self.node().number())
     }
 
     /// The comments directly before it on its line, nearest first.

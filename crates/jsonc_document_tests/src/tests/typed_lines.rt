@@ -38,9 +38,9 @@ fn are_comments<A: Allocator>(
 
 /// Lines end by LF, one level of indent is two spaces, and no comma stands after a last element.
 fn document_told<A: Allocator + Copy>(doc: &CstRootNode<A>) -> Outcome {
-    Outcome::of_answer(doc.newline_kind(), &CstNewlineKind::LineFeed)
+    Outcome::of(doc.newline_kind() == CstNewlineKind::LineFeed)
         .then(is_text(doc.single_indent_text(), Some("  ")))
-        .then(Outcome::of_answer(doc.root().uses_trailing_commas(doc), &false))
+        .then(Outcome::of(!doc.root().uses_trailing_commas(doc)))
 }
 
 /// The comment at the end of the line stands behind the comma.

@@ -322,15 +322,7 @@ static LAID_OUT: [(&str, CstNewlineKind, bool); 8] = [
 ];
 
 fn lines_told<A: Allocator + Copy>(doc: &CstRootNode<A>, kind: CstNewlineKind, uses: bool) -> bool {
-    let is_kind = match doc.newline_kind() {
-        Ok(told) => told == kind,
-        Err(_) => false,
-    };
-    let is_used = match doc.root().uses_trailing_commas(doc) {
-        Ok(told) => told == uses,
-        Err(_) => false,
-    };
-    is_kind && is_used
+    doc.newline_kind() == kind && doc.root().uses_trailing_commas(doc) == uses
 }
 
 #[test]

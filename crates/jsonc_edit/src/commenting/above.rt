@@ -1,4 +1,4 @@
-//! A comment that comes above an entry.
+//! A comment that is inserted above an entry.
 
 ghost use Rattle.std.specs.Prelude.{◌≡◌, ◌<◌, IfOk, None, OnErr, OnOk, Some, length, map};
 ghost use Rattle.std.specs.Prelude.{option_and_then, option_map, string_bytes};
@@ -166,7 +166,7 @@ fn come_on_line<A: Allocator + Copy>(
         (own_line (newline_kind_at tree.old.nodes container) text.now (own_indent tree.old.nodes node))) }
     ensures prepared { OnErr result (Extends tree.old.nodes tree.new.nodes) }
 {
-    let kind = newline_kind_at(alloc, tree, container)?;
+    let kind = newline_kind_at(tree, container);
     let indent = own_indent(alloc, tree, node)?;
     let mut row = Vec::new(alloc);
     push_own_line(alloc, tree, &mut row, kind, text, indent.as_str())?;
@@ -175,7 +175,7 @@ fn come_on_line<A: Allocator + Copy>(
 }
 
 // Puts a comment on a new line before a child that has something before it on its line, and the child
-// on a new line behind it.
+// on a new line after it.
 fn come_between<A: Allocator + Copy>(
     alloc: A,
     tree: &mut Tree<A>,
@@ -189,7 +189,7 @@ fn come_between<A: Allocator + Copy>(
         (seam_at tree.old.nodes node (indent_in tree.old.nodes container))) }
     ensures prepared { OnErr result (Extends tree.old.nodes tree.new.nodes) }
 {
-    let kind = newline_kind_at(alloc, tree, container)?;
+    let kind = newline_kind_at(tree, container);
     let indent = indent_in(alloc, tree, container)?;
     let seam = seam_at(tree, node, indent.as_str());
     let mut row = Vec::new(alloc);
@@ -208,9 +208,9 @@ fn come_between<A: Allocator + Copy>(
 
 /// Puts a comment above a child, on a line of its own.
 ///
-/// Where a line begins with the child, the comment comes in its place, and behind it the end of the
+/// Where a line begins with the child, the comment is put in its place, and after it the end of the
 /// line, as the document's lines end, and the child's indent. Where anything but whitespace stands
-/// before the child on its line, a new line begins before the comment, and another behind it; both
+/// before the child on its line, a new line begins before the comment, and another after it; both
 /// have the indent of what stands in the container, and whitespace before the child with which that
 /// ends is the end of the second. Where the child is detached no node changes.
 ///

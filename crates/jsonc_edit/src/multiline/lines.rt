@@ -29,7 +29,7 @@ pub fn lines_for<A: Allocator + Copy>(
     ensures { IfOk result (λ l. lines_of l ≡ lines_for tree.now.nodes container) }
 {
     let indents = indents_at(alloc, tree, container)?;
-    let newline = newline_kind_at(alloc, tree, container)?;
+    let newline = newline_kind_at(tree, container);
     let mut inner = String::from_str(alloc, indents.current.as_str())?;
     inner.push_str(indents.single.as_str())?;
     Ok(Lines {

@@ -33,7 +33,7 @@ fn shaped_value<A: Allocator>(tree: &Tree<A>, property: usize, shape: Shape) -> 
     }
 }
 
-// Puts a property with an empty value behind the last one of an object, and answers that value.
+// Puts a property with an empty value after the last one of an object, and answers that value.
 fn append_empty<A: Allocator + Copy>(
     alloc: A,
     tree: &mut Tree<A>,
@@ -54,12 +54,9 @@ fn append_empty<A: Allocator + Copy>(
     // There are fewer properties than nodes.
     let count = tree.len();
     let empty = empty_value(alloc, shape);
-    let property = match insert_property(alloc, tree, object, count, name, &empty) {
-        Ok(property) => property,
-        Err(error) => return Err(error),
-    };
+    let property = insert_property(alloc, tree, object, count, name, &empty)?;
     let Some(value) = value_of(tree, property) else {
-        // A property that has come holds its value.
+        // A property that was inserted holds its value.
         unreachable!()
     };
     Ok(value)
@@ -68,11 +65,11 @@ fn append_empty<A: Allocator + Copy>(
 /// Sees that the first property of a name in an object has an array or an object as its value, and answers
 /// it.
 ///
-/// Where no property has the name, one with an empty value comes behind the last one, as by
+/// Where no property has the name, one with an empty value is inserted after the last one, as by
 /// `insert_property` of `jsonc_insert::members`. A value of another kind is replaced by an empty one, and one that is
 /// missing is set so, as by `property_value_or_set` of `jsonc_edit::set`; or it stays as it is, and the answer is
 /// None. A property whose value is to be set, and that lacks its colon, answers `MissingName`; an object
-/// into which a property is to come, and that lacks a bracket, `MissingBrackets`. Want of memory is told
+/// into which a property is to be inserted, and that lacks a bracket, `MissingBrackets`. Want of memory is told
 /// where neither is so, or of a name with a backslash, which takes memory to read. An error leaves the
 /// document, and every node that was there, as it was.
 pub fn ensure_property<A: Allocator + Copy>(

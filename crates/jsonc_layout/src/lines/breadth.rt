@@ -1,5 +1,5 @@
 //! What a walk over the levels of a document tells of its layout.
-ghost use Rattle.std.specs.Prelude.{◌≡◌, ◌<◌, ◌∷◌, [], IfOk, IfSome, IsOk, length};
+ghost use Rattle.std.specs.Prelude.{◌≡◌, ◌<◌, ◌∷◌, [], IfSome, length};
 ghost use Rattle.std.specs.List.{find};
 ghost use Rattle.jsonc_tree.specs.Tree.{children_at};
 ghost use Rattle.jsonc_layout.specs.lines.Breadth.{first_sought, has_whitespace, is_sought, is_spaced};
@@ -11,7 +11,7 @@ use crate::lines::siblings::trailing_comma;
 use crate::lines::walk::{Reached, next_higher, next_within};
 use crate::nodes::{children_from, first_element_back, is_newline, is_whitespace, root_node};
 use jsonc_tree::{CstNewlineKind, Kind, Tree};
-use std::alloc::{AllocError, Allocator};
+use std::alloc::Allocator;
 
 // What a walk looks for: the end of a line, or an array or object with whitespace and an element.
 #[derive(Clone, Copy)]
@@ -113,21 +113,15 @@ fn first_sought<A: Allocator>(tree: &Tree<A>, sought: Sought, top: usize) -> Opt
 }
 
 /// How the lines of a document end: as the first of them, level after level, or by LF.
-///
-/// No memory is wanted.
-pub fn newline_kind<A: Allocator + Copy>(
-    _alloc: A,
-    tree: &Tree<A>,
-) -> Result<CstNewlineKind, AllocError>
-    ensures kind { IfOk result (λ kind. kind ≡ newline_kind_of tree.now.nodes) }
-    ensures ok { IsOk result }
+pub fn newline_kind<A: Allocator>(tree: &Tree<A>) -> CstNewlineKind
+    ensures { result ≡ newline_kind_of tree.now.nodes }
 {
     let Some(node) = first_sought(tree, Sought::LineEnd, 0) else {
-        return Ok(CstNewlineKind::LineFeed);
+        return CstNewlineKind::LineFeed;
     };
     match tree.kind(node) {
-        Kind::Newline(kind) => Ok(*kind),
-        _ => Ok(CstNewlineKind::LineFeed),
+        Kind::Newline(kind) => *kind,
+        _ => CstNewlineKind::LineFeed,
     }
 }
 
@@ -144,41 +138,29 @@ fn is_in_document<A: Allocator>(tree: &Tree<A>, node: usize) -> bool
 
 /// How lines end that are put in beside a node: as the document's do, and by LF in what stands apart
 /// from it.
-///
-/// No memory is wanted.
-pub fn newline_kind_at<A: Allocator + Copy>(
-    alloc: A,
-    tree: &Tree<A>,
-    node: usize,
-) -> Result<CstNewlineKind, AllocError>
-    requires in_tree { node < length tree.now.nodes }
-    ensures kind { IfOk result (λ kind. kind ≡ newline_kind_at tree.now.nodes node) }
-    ensures ok { IsOk result }
+pub fn newline_kind_at<A: Allocator>(tree: &Tree<A>, node: usize) -> CstNewlineKind
+    requires { node < length tree.now.nodes }
+    ensures { result ≡ newline_kind_at tree.now.nodes node }
 {
     if !is_in_document(tree, node) {
-        return Ok(CstNewlineKind::LineFeed);
+        return CstNewlineKind::LineFeed;
     }
-    newline_kind(alloc, tree)
+    newline_kind(tree)
 }
 
 /// Whether commas stand after last elements: in the first array or object, level after level from a
 /// node down, that has whitespace between its brackets and an element.
 ///
-/// False where there is no such array or object. No memory is wanted.
-pub fn uses_trailing_commas<A: Allocator + Copy>(
-    _alloc: A,
-    tree: &Tree<A>,
-    node: usize,
-) -> Result<bool, AllocError>
-    requires in_tree { node < length tree.now.nodes }
-    ensures uses { IfOk result (λ uses. uses ≡ uses_trailing_commas_at tree.now.nodes node) }
-    ensures ok { IsOk result }
+/// False where there is no such array or object.
+pub fn uses_trailing_commas<A: Allocator>(tree: &Tree<A>, node: usize) -> bool
+    requires { node < length tree.now.nodes }
+    ensures { result ≡ uses_trailing_commas_at tree.now.nodes node }
 {
     let Some(container) = first_sought(tree, Sought::SpacedElements, node) else {
-        return Ok(false);
+        return false;
     };
     let Some(last) = last_child_element(tree, container) else {
-        return Ok(false);
+        return false;
     };
-    Ok(trailing_comma(tree, last).is_some())
+    trailing_comma(tree, last).is_some()
 }

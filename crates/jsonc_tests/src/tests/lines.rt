@@ -67,11 +67,11 @@ fn is_indent<A: Allocator>(found: Result<Option<String<A>>, AllocError>, text: &
 }
 
 /// Whether the document uses trailing commas, as it is to.
-fn uses_commas<A: Allocator + Copy>(alloc: A, tree: &Tree<A>, wanted: bool) -> Outcome {
+fn uses_commas<A: Allocator>(tree: &Tree<A>, wanted: bool) -> Outcome {
     if tree.len() == 0 {
         return Outcome::Other;
     }
-    Outcome::of_answer(uses_trailing_commas(alloc, tree, 0), &wanted)
+    Outcome::of(uses_trailing_commas(tree, 0) == wanted)
 }
 
 fn is_spread_told<A: Allocator + Copy>(alloc: A, tree: &Tree<A>) -> Outcome {
@@ -83,7 +83,7 @@ fn is_spread_told<A: Allocator + Copy>(alloc: A, tree: &Tree<A>) -> Outcome {
         && !has_blank_line_before(tree, second);
     is_indent(indent_text(alloc, tree, second), "  ")
         .then(is_indent(single_indent_text(alloc, tree), "  "))
-        .then(uses_commas(alloc, tree, false))
+        .then(uses_commas(tree, false))
         .then(Outcome::of(has_commas))
 }
 
@@ -96,8 +96,8 @@ fn is_grouped_told<A: Allocator + Copy>(alloc: A, tree: &Tree<A>) -> Outcome {
     let windows = CstNewlineKind::CarriageReturnLineFeed;
     is_indent(indent_text(alloc, tree, second), "\t")
         .then(is_indent(single_indent_text(alloc, tree), "\t"))
-        .then(Outcome::of_answer(newline_kind(alloc, tree), &windows))
-        .then(uses_commas(alloc, tree, true))
+        .then(Outcome::of(newline_kind(tree) == windows))
+        .then(uses_commas(tree, true))
         .then(Outcome::of(has_groups))
 }
 

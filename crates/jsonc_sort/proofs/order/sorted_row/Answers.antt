@@ -26,5 +26,5 @@ returns-clause-planned g c =
     let same : xs ≡ between kids =
     between_read kids c.deref.result.now c.len.result (c.deref.ensures.value ∙ c.in_ok-children.ensures.children) (c.len.ensures ∙ c.in_ok-children.children.ok.0 ∙ ap length c.in_ok-children.ensures.children) in
     let both = has_both ns c.args.container c.args.order.now c.requires.moves in
-    sort_is_planned ns c.plan_row.new.tree.nodes c.args.container c.args.tree.now.tree c.requires.in_tree h c.args.order.now xs c.deref-2.result.now same (subst (AreEntries (content_at ns) h xs) (sym c.deref-2.ensures.value) c.in_ok-entries.ensures) both.0 both.1 c.requires.order c.in_ok-newline.newline
-    c.in_ok-newline.ensures.kind c.in_ok-sorted.sorted.items c.in_ok-sorted.ensures.planned
+    sort_is_planned ns c.plan_row.new.tree.nodes c.args.container c.args.tree.now.tree c.requires.in_tree h c.args.order.now xs c.deref-2.result.now same (subst (AreEntries (content_at ns) h xs) (sym c.deref-2.ensures.value) c.in_ok-entries.ensures) both.0 both.1 c.requires.order c.newline_kind_at-newline.result
+    c.newline_kind_at-newline.ensures c.in_ok-sorted.sorted.items c.in_ok-sorted.ensures.planned

@@ -13,16 +13,16 @@ value_of-requires g c =
     let old = c.args.tree.now.nodes in
     let new = c.insert_property.new.tree.nodes in
     let count = c.len-count.result in
-    let put = subst (λ (v : Plain). PropertyPut old new c.args.object count (chars c.args.name.now) v c.in-Ok.property) c.empty_value-empty.ensures c.in-Ok.ensures.put in
-    property_there old new c.args.object count (chars c.args.name.now) c.args.shape c.in-Ok.property c.args.tree.now.tree c.requires.in_tree c.in-Ok.ensures.brackets put
+    let put = subst (λ (v : Plain). PropertyPut old new c.args.object count (chars c.args.name.now) v c.in_ok-property.property) c.empty_value-empty.ensures c.in_ok-property.ensures.put in
+    property_there old new c.args.object count (chars c.args.name.now) c.args.shape c.in_ok-property.property c.args.tree.now.tree c.requires.in_tree c.in_ok-property.ensures.brackets put
 
 pub unreachable-requires : goal.unreachable-requires
 unreachable-requires g c =
     let old = c.args.tree.now.nodes in
     let new = c.insert_property.new.tree.nodes in
     let count = c.len-count.result in
-    let put = subst (λ (v : Plain). PropertyPut old new c.args.object count (chars c.args.name.now) v c.in-Ok.property) c.empty_value-empty.ensures c.in-Ok.ensures.put in
-    let holds = holds_empty old new c.args.object count (chars c.args.name.now) c.args.shape c.in-Ok.property c.args.tree.now.tree c.requires.in_tree c.in-Ok.ensures.brackets put in
+    let put = subst (λ (v : Plain). PropertyPut old new c.args.object count (chars c.args.name.now) v c.in_ok-property.property) c.empty_value-empty.ensures c.in_ok-property.ensures.put in
+    let holds = holds_empty old new c.args.object count (chars c.args.name.now) c.args.shape c.in_ok-property.property c.args.tree.now.tree c.requires.in_tree c.in_ok-property.ensures.brackets put in
     c.in_default.not-Some holds.value (c.value_of.ensures.value ∙ holds.holds)
 
 pub returns-clause-comes : goal.returns-clause-comes
@@ -30,10 +30,10 @@ returns-clause-comes g c =
     let old = c.args.tree.now.nodes in
     let new = c.insert_property.new.tree.nodes in
     let count = c.len-count.result in
-    let put = subst (λ (v : Plain). PropertyPut old new c.args.object count (chars c.args.name.now) v c.in-Ok.property) c.empty_value-empty.ensures c.in-Ok.ensures.put in
+    let put = subst (λ (v : Plain). PropertyPut old new c.args.object count (chars c.args.name.now) v c.in_ok-property.property) c.empty_value-empty.ensures c.in_ok-property.ensures.put in
     record {
-      property = c.in-Ok.property;
-      put = put_last old new c.args.object count (chars c.args.name.now) c.args.shape c.in-Ok.property c.args.tree.now.tree c.requires.in_tree c.in-Ok.ensures.brackets put (few_elements old c.args.tree.now.tree c.args.object count c.len-count.ensures.len);
+      property = c.in_ok-property.property;
+      put = put_last old new c.args.object count (chars c.args.name.now) c.args.shape c.in_ok-property.property c.args.tree.now.tree c.requires.in_tree c.in_ok-property.ensures.brackets put (few_elements old c.args.tree.now.tree c.args.object count c.len-count.ensures.len);
       holds = sym c.value_of.ensures.value ∙ c.in-Some.is;
     }
 
@@ -42,7 +42,7 @@ returns-clause-shape g c =
     let old = c.args.tree.now.nodes in
     let new = c.insert_property.new.tree.nodes in
     let count = c.len-count.result in
-    let put = subst (λ (v : Plain). PropertyPut old new c.args.object count (chars c.args.name.now) v c.in-Ok.property) c.empty_value-empty.ensures c.in-Ok.ensures.put in
-    let holds = holds_empty old new c.args.object count (chars c.args.name.now) c.args.shape c.in-Ok.property c.args.tree.now.tree c.requires.in_tree c.in-Ok.ensures.brackets put in
+    let put = subst (λ (v : Plain). PropertyPut old new c.args.object count (chars c.args.name.now) v c.in_ok-property.property) c.empty_value-empty.ensures c.in_ok-property.ensures.put in
+    let holds = holds_empty old new c.args.object count (chars c.args.name.now) c.args.shape c.in_ok-property.property c.args.tree.now.tree c.requires.in_tree c.in_ok-property.ensures.brackets put in
     let same : holds.value ≡ c.in-Some.value = Some_same holds.value c.in-Some.value (sym holds.holds ∙ sym c.value_of.ensures.value ∙ c.in-Some.is) in
     subst (λ (m : ℕ). is_of c.args.shape (content_at new m) ≡ true) same holds.shaped
