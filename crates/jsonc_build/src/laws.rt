@@ -5,7 +5,7 @@ ghost use Rattle.jsonc_sound.specs.Lines.{DocumentLinesEnd, DocumentLinesEndLoos
 ghost use Rattle.jsonc_sound.specs.Shape.{DocumentShaped, PrintsDocument};
 
 /// A tree of a document's shape whose line comments end with their lines, in an array or object
-/// perhaps behind whitespace, prints a text of the grammar, and has the value of that text, whatever
+/// perhaps after whitespace, prints a text of the grammar, and has the value of that text, whatever
 /// the options. So does one whose line comments end directly with their lines: they end so too.
 pub fn shaped_trees_print_documents()
     ensures loosely { (o : Options) (t : OrderedTree) → DocumentShaped o t

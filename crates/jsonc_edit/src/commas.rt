@@ -1,9 +1,9 @@
-//! Trailing commas: put behind the last element of each array and object on several lines, or taken away.
+//! Trailing commas: put after the last element of each array and object on several lines, or taken away.
 //!
 //! [`set_trailing_commas`] walks what stands below a node in the order of the document, through elements
-//! and the values of properties, and sets the comma of each array and object as it comes to it
-//! (`specs/commas/Commas.antt`). It takes no machine stack however deep the document is. Only a comma that comes
-//! wants memory; where that is refused, commas set before stay, and nothing else has changed
+//! and the values of properties, and sets the comma of each array and object as it reaches it
+//! (`specs/commas/Commas.antt`). It takes no machine stack however deep the document is. Only a comma that
+//! is inserted wants memory; where that is refused, commas set before stay, and nothing else has changed
 //! (`specs/commas/InTurn.antt`). A sound document says the same then, and each of its arrays and objects has its
 //! comma, or none (`specs/commas/Laws.antt`).
 

@@ -1,13 +1,13 @@
-//! Comments that come.
+//! Comments that are inserted.
 //!
-//! A comment comes above an entry, on a line of its own with the entry's indent
-//! (`specs/commenting/Above.antt`), or behind it on its line, behind its comma
-//! (`specs/commenting/Behind.antt`). All leaves are made first, which may be refused, and then come in
+//! A comment is inserted above an entry, on a line of its own with the entry's indent
+//! (`specs/commenting/Above.antt`), or after it on its line, after its comma
+//! (`specs/commenting/Behind.antt`). All leaves are made first, which may be refused, and then inserted in
 //! one step (`specs/commenting/Come.antt`), so an error leaves the document as it was.
 //!
-//! In a sound document whose options allow comments, where a whole comment comes ([`comment_kind`]), the
-//! text is a document again, of the same value and with the same literals and comments but for this one
-//! ([`laws`], `specs/commenting/Laws.antt`). A line comment comes behind an entry only where its line
+//! In a sound document whose options allow comments, where a whole comment is inserted ([`comment_kind`]),
+//! the text is a document again, of the same value and with the same literals and comments but for this one
+//! ([`laws`], `specs/commenting/Laws.antt`). A line comment is inserted after an entry only where its line
 //! ends ([`may_end_line`]). [`insert_comment`] refuses what is no comment, no entry, or would take the
 //! rest of a line (`specs/commenting/Inserting.antt`).
 

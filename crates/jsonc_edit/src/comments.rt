@@ -73,7 +73,7 @@ fn newline_before<A: Allocator>(tree: &Tree<A>, container: usize, node: usize) -
     sibling
 }
 
-// The first node that leaves with a comment.
+// The first node that is removed with a comment.
 pub(crate) fn first_removed<A: Allocator>(tree: &Tree<A>, container: usize, comment: usize) -> usize
     requires { parent_at tree.now.nodes comment ≡ Some container }
     ensures first { result
@@ -88,7 +88,7 @@ pub(crate) fn first_removed<A: Allocator>(tree: &Tree<A>, container: usize, comm
     newline_before(tree, container, blank)
 }
 
-// Takes a comment out, and what leaves with it.
+// Takes a comment out, and what is removed with it.
 pub(crate) fn take_out<A: Allocator>(tree: &mut Tree<A>, container: usize, comment: usize)
     requires { parent_at tree.old.nodes comment ≡ Some container }
     ensures removed { IsRemoved tree.old.nodes tree.new.nodes comment }
@@ -104,7 +104,7 @@ pub(crate) fn take_out<A: Allocator>(tree: &mut Tree<A>, container: usize, comme
 ///
 /// With a line comment go the whitespace leaves directly before it, and the newline leaf directly
 /// before those. Where two literals without quotes would come to stand directly beside each other, a
-/// space comes between them; its memory alone may be wanted, and an error leaves the document, and
+/// space is inserted between them; its memory alone may be wanted, and an error leaves the document, and
 /// every node that was there, as it was. Where the comment is detached no node changes.
 pub fn remove_comment<A: Allocator + Copy>(
     alloc: A,

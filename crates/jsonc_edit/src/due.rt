@@ -121,7 +121,7 @@ pub fn seen_before<A: Allocator>(tree: &Tree<A>, node: usize) -> Option<usize>
     previous_siblings(tree, node).find(|sibling| prints(tree, *sibling))
 }
 
-// The nearest sibling behind a node that prints something.
+// The nearest sibling after a node that prints something.
 fn nearest_behind<A: Allocator>(tree: &Tree<A>, node: usize) -> Option<usize>
     requires { node < length tree.now.nodes }
     ensures seen { result ≡ nearest tree.now.nodes (siblings_after tree.now.nodes node) }
@@ -130,7 +130,7 @@ fn nearest_behind<A: Allocator>(tree: &Tree<A>, node: usize) -> Option<usize>
     next_siblings(tree, node).find(|sibling| prints(tree, *sibling))
 }
 
-// The nearest sibling behind the property that a node stands in, if it is one.
+// The nearest sibling after the property that a node stands in, if it is one.
 fn behind_property<A: Allocator>(tree: &Tree<A>, node: usize) -> Option<usize>
     requires { node < length tree.now.nodes }
     ensures seen { result ≡ behind_holder tree.now.nodes node }
@@ -162,7 +162,7 @@ pub(crate) fn seen_last<A: Allocator>(tree: &Tree<A>, container: usize) -> Optio
     children_backwards(tree, container).find(|child| prints(tree, *child))
 }
 
-// What is seen behind a node: in its row, or where it is the last of a property, behind that.
+// What is seen after a node: in its row, or where it is the last of a property, after that.
 fn seen_behind<A: Allocator>(tree: &Tree<A>, node: usize) -> Option<usize>
     requires { node < length tree.now.nodes }
     ensures seen { result ≡ seen_behind tree.now.nodes node }
@@ -225,7 +225,7 @@ pub fn space_needed_before<A: Allocator>(tree: &Tree<A>, node: usize) -> Option<
     None
 }
 
-/// The node before which a space is due behind a literal without quotes that takes this node's place.
+/// The node before which a space is due after a literal without quotes that takes this node's place.
 pub fn space_needed_after<A: Allocator>(tree: &Tree<A>, node: usize) -> Option<usize>
     requires { node < length tree.now.nodes }
     ensures due { result ≡ space_needed_after tree.now.nodes node }
@@ -238,7 +238,7 @@ pub fn space_needed_after<A: Allocator>(tree: &Tree<A>, node: usize) -> Option<u
     None
 }
 
-/// The node that comes as the last child of a container, if a space is due before it where it is a
+/// The node that is inserted as the last child of a container, if a space is due before it where it is a
 /// literal without quotes.
 pub fn space_needed_last<A: Allocator>(
     tree: &Tree<A>,
@@ -254,7 +254,7 @@ pub fn space_needed_last<A: Allocator>(
     None
 }
 
-/// The node before which a space is due behind a literal without quotes that comes as the last child of
+/// The node before which a space is due after a literal without quotes that is the new last child of
 /// a property.
 pub fn space_needed_past<A: Allocator>(tree: &Tree<A>, property: usize) -> Option<usize>
     requires { property < length tree.now.nodes }

@@ -141,15 +141,15 @@ pub fn replaced_values_take_the_path()
 /// What an edit makes of a text: in a sound document the value at a path has been replaced, by
 /// `replace`, or by `replace_with` in a layout that fits. Where the numbers of the new value are
 /// numbers, the text is a document again. Its value is what it was, but that at the path the new value
-/// stands. Spaces have come where two literals without quotes would have met; all other leaves before
-/// and after are what they were, comments among them. And the document is sound again.
+/// stands. Spaces have been inserted where two literals without quotes would have met; all other leaves
+/// before and after are what they were, comments among them. And the document is sound again.
 pub fn replaced_values_are_written()
     ensures laid_out { (o : Options) (old new : List Node) (n m : ℕ) (l : Layout) (v : Plain)
         → WritesLaidOut o old new n m l v }
     ensures replaced { (o : Options) (old new : List Node) (n m : ℕ) (v : Plain) → WritesReplaced o old new n m v }
 {}
 
-/// What leaves with a comment of the document is trivia that ends in it, and nothing comes in its
+/// What is removed with a comment of the document is trivia that ends in it, and nothing is put in its
 /// place but a space where two literals without quotes would have met; so a sound document stays
 /// sound, and has the value that it had. All other leaves stay, in order, and before it stand as many
 /// comments as its number says.
@@ -160,8 +160,8 @@ pub fn documents_without_a_comment()
     ensures kept { (old new : List Node) (n : ℕ) → HasLeavesWithout old new n }
 {}
 
-/// Worked rows: of `[`, two newlines, two whitespace leaves and a comment, a line comment leaves with
-/// all from the second newline on, which stands at place 2, and a block comment leaves alone.
+/// Worked rows: of `[`, two newlines, two whitespace leaves and a comment, a line comment is removed with
+/// all from the second newline on, which stands at place 2, and a block comment is removed alone.
 pub fn worked_comments()
     ensures line { removed_from (commented (codes "// c")) 1 7 ≡ 2 }
     ensures block { removed_from (commented (codes "/* c */")) 1 7 ≡ 5 }

@@ -11,17 +11,17 @@
 //! A value whose numbers are numbers is laid out as a whole value, which may stand where another stood
 //! (`specs/Writing.antt`). So the text is a document again, whose value is the old one with the new
 //! value at the path (`specs/Written.antt`). Where two literals without quotes would come to stand
-//! directly beside each other, a space comes between them (`specs/Spaced.antt`).
+//! directly beside each other, a space is inserted between them (`specs/Spaced.antt`).
 //! [`remove_comment`] takes a comment out, a line comment with what stands before it on its line
-//! (`specs/Comments.antt`), and asks for memory only where a space has to come in its place.
+//! (`specs/Comments.antt`), and asks for memory only where a space has to take its place.
 //! [`EditError`] says why a document was not changed.
 //!
 //! The space between literals without quotes: where commas may be missing, a change can let two numbers,
 //! names without quotes, `true`, `false` or `null` stand directly beside each other that did not before.
-//! Then a space comes between them: in the innermost container that holds both, directly before the
+//! Then a space is inserted between them: in the innermost container that holds both, directly before the
 //! child that holds the second (`specs/Due.antt`). Leaves that print nothing are passed over.
 //! [`space_needed_between`], [`space_needed_before`] and [`space_needed_after`] tell where one is due, and [`space_needed_last`] and
-//! [`space_needed_past`] where something comes last; [`make_spaces`] makes it, detached yet, and
+//! [`space_needed_past`] where something is appended; [`make_spaces`] makes it, detached yet, and
 //! [`put_spaces`] puts it in, which takes no memory (`specs/Put.antt`).
 //!
 //! [`set`] has the edits that set values, [`remove`] those that take entries out; [`multiline`] puts arrays and objects on

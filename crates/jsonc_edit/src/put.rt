@@ -22,9 +22,9 @@ pub struct Space {
 /// The spaces that a change needs.
 #[derive(Drop)]
 pub struct Spaces {
-    /// Before what comes in.
+    /// Before what is inserted.
     pub before: Option<Space>,
-    /// Before what stands behind it.
+    /// Before what stands after it.
     pub behind: Option<Space>,
 }
 
@@ -99,8 +99,8 @@ fn put_space<A: Allocator>(tree: &mut Tree<A>, space: Option<Space>)
     put_before(tree, space, container);
 }
 
-/// Puts spaces in, each directly before its node: first the one before what is to come, then the one
-/// behind. No memory is wanted.
+/// Puts spaces in, each directly before its node: first the one before what is inserted, then the
+/// one after it. No memory is wanted.
 pub fn put_spaces<A: Allocator>(tree: &mut Tree<A>, spaces: Spaces)
     requires hand { AreAtHand tree.old.nodes (nodes_of spaces) spaces }
     requires children { AreChildren tree.old.nodes (nodes_of spaces) }

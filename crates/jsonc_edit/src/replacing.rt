@@ -36,7 +36,7 @@ pub fn put_in_place<A: Allocator>(tree: &mut Tree<A>, container: usize, node: us
     tree.replace(node, &[new]);
 }
 
-/// Makes the spaces that are due before a new node and behind it, if it is a literal without quotes. No
+/// Makes the spaces that are due before a new node and after it, if it is a literal without quotes. No
 /// node has changed.
 pub fn spaces_for<A: Allocator + Copy>(
     alloc: A,
@@ -60,7 +60,7 @@ pub fn spaces_for<A: Allocator + Copy>(
 
 /// Lays a value out as a new node, which replaces a child, and answers the number of the new node.
 ///
-/// Where a literal without quotes would come to stand directly beside another, a space comes between
+/// Where a literal without quotes would come to stand directly beside another, a space is inserted between
 /// them. The child is detached then. Where the node has no parent the answer is None, and no node
 /// changes. An error leaves the document, and every node that was there, as it was.
 pub fn replace_with<A: Allocator + Copy>(
@@ -96,7 +96,7 @@ pub fn replace_with<A: Allocator + Copy>(
 ///
 /// Where the child is the value at a path of a sound document, the text is a document again, whose
 /// value is the old one with the new value at the path. Where a literal without quotes would come to
-/// stand directly beside another, a space comes between them.
+/// stand directly beside another, a space is inserted between them.
 ///
 /// The document tells how: the indents are those at the container that the child stands in, lines end
 /// as the document's do, and the last of several lines has a comma where that is so in the container,
@@ -152,8 +152,8 @@ fn replace_raw<A: Allocator + Copy>(
 ///
 /// The document tells how: the indents are those at the property that the name stands in, lines end as
 /// the document's do, and the last of several lines has a comma where that is so in the property. No
-/// space comes beside the new node: `{a:1"b":2}` with 7 for its second name is `{a:17:2}`. Where the node
-/// has no parent the answer is None, and no node changes. An error leaves the document, and every node
+/// space is inserted beside the new node: `{a:1"b":2}` with 7 for its second name is `{a:17:2}`. Where the
+/// node has no parent the answer is None, and no node changes. An error leaves the document, and every node
 /// that was there, as it was.
 pub fn replace_name<A: Allocator + Copy>(
     alloc: A,

@@ -1,7 +1,7 @@
 //! Edits by the numbers of nodes that set values.
 //!
-//! [`set_root`] sets the document's value: another is replaced by it, or where none stands it comes with
-//! the ends of lines that it needs (`specs/set/RootSet.antt`). [`clear_root`] takes all out of the document.
+//! [`set_root`] sets the document's value: another is replaced by it, or where none stands it is inserted
+//! with the ends of lines that it needs (`specs/set/RootSet.antt`). [`clear_root`] takes all out of the document.
 //! [`root_value_or_create`] and [`root_value_or_set`] answer the document's object or array, and set an
 //! empty one where there is none (`specs/set/Kinds.antt`).
 //!

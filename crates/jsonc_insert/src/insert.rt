@@ -1,4 +1,4 @@
-//! Elements that come into arrays.
+//! Elements that are inserted into arrays.
 
 ghost use Rattle.std.specs.Prelude.{◌≡◌, ◌<◌, ◌∷◌, ◌++◌, IfErr, IfOk, IsTrue, OnErr, OnOk, None, Option, chars, List, false, length, option_map, string_bytes, true, ℕ};
 ghost use Rattle.jsonc_tree.specs.Building.{Keeps};
@@ -27,7 +27,7 @@ use jsonc_layout::input::CstInputValue;
 use jsonc_tree::{CstNewlineKind, Tree};
 use std::alloc::{AllocError, Allocator};
 
-// The new element with what comes directly before and behind it.
+// The new element with what is inserted directly before and after it.
 fn written<A: Allocator>(
     alloc: A,
     before: &[usize],
@@ -43,14 +43,14 @@ fn written<A: Allocator>(
     Ok(row)
 }
 
-// What the document tells of what comes between two neighbours.
+// What the document tells of what is inserted between two neighbours.
 #[derive(Drop)]
 struct Telling<A: Allocator> {
     // How it is laid out.
     layout: Layout<A>,
     // The indent of the container's own line.
     outer: String<A>,
-    // Where it comes.
+    // Where it is inserted.
     beside: Neighbours,
 }
 
@@ -78,7 +78,7 @@ fn read_on_lines<A: Allocator + Copy>(
     })
 }
 
-// The same of what comes on a line with others: no layout is asked for.
+// The same of what is put on a line with others: no layout is asked for.
 fn read_on_line<A: Allocator + Copy>(
     alloc: A,
     tree: &Tree<A>,
@@ -104,7 +104,7 @@ fn read_on_line<A: Allocator + Copy>(
     })
 }
 
-// Reads what the document tells of a value, or a property of a name, that comes into a container.
+// Reads what the document tells of a value, or a property of a name, that is inserted into a container.
 fn read_beside<A: Allocator + Copy>(
     alloc: A,
     tree: &Tree<A>,
@@ -124,7 +124,7 @@ fn read_beside<A: Allocator + Copy>(
     read_on_line(alloc, tree, container, index)
 }
 
-// Puts what was made behind its neighbours. No memory is wanted.
+// Puts what was made after its neighbours. No memory is wanted.
 fn put_beside<A: Allocator>(
     tree: &mut Tree<A>,
     container: usize,

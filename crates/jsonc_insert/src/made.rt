@@ -15,20 +15,20 @@ use jsonc_layout::input::CstInputValue;
 use jsonc_tree::{CstNewlineKind, Kind, Tree};
 use std::alloc::{AllocError, Allocator};
 
-/// What comes in: the element, and what is written beside it.
+/// What is inserted: the element, and what is written beside it.
 #[derive(Drop)]
 pub(crate) struct Made<A: Allocator> {
-    /// A comma that comes behind the element before.
+    /// A comma that is inserted after the element before.
     pub(crate) comma: Vec<usize, A>,
     /// The leaves directly before the new element.
     pub(crate) before: Vec<usize, A>,
     /// The new element.
     pub(crate) element: usize,
-    /// The leaves directly behind it.
+    /// The leaves directly after it.
     pub(crate) behind: Vec<usize, A>,
 }
 
-// Makes a leaf behind others.
+// Makes a leaf after others.
 fn push_leaf<A: Allocator + Copy>(
     tree: &mut Tree<A>,
     leaves: &mut Vec<usize, A>,
@@ -43,7 +43,7 @@ fn push_leaf<A: Allocator + Copy>(
     Ok(())
 }
 
-// Makes a leaf of whitespace behind others.
+// Makes a leaf of whitespace after others.
 fn push_blanks<A: Allocator + Copy>(
     alloc: A,
     tree: &mut Tree<A>,
@@ -58,7 +58,7 @@ fn push_blanks<A: Allocator + Copy>(
     push_leaf(tree, leaves, Kind::Whitespace(blanks))
 }
 
-// Makes the end of a line behind others, and the indent of the next one.
+// Makes the end of a line after others, and the indent of the next one.
 fn push_line<A: Allocator + Copy>(
     alloc: A,
     tree: &mut Tree<A>,
@@ -74,7 +74,7 @@ fn push_line<A: Allocator + Copy>(
     push_blanks(alloc, tree, leaves, indent)
 }
 
-// Makes what is written for a gap behind others.
+// Makes what is written for a gap after others.
 fn push_gap<A: Allocator + Copy>(
     alloc: A,
     tree: &mut Tree<A>,
@@ -94,7 +94,7 @@ fn push_gap<A: Allocator + Copy>(
     }
 }
 
-// Makes a comma behind others, where one is wanted.
+// Makes a comma after others, where one is wanted.
 fn push_comma_if<A: Allocator + Copy>(
     tree: &mut Tree<A>,
     leaves: &mut Vec<usize, A>,
@@ -124,7 +124,7 @@ fn make_comma<A: Allocator + Copy>(
     Ok(leaves)
 }
 
-// Makes what comes before the new element.
+// Makes what is inserted before the new element.
 fn make_before<A: Allocator + Copy>(
     alloc: A,
     tree: &mut Tree<A>,
@@ -148,7 +148,7 @@ fn make_before<A: Allocator + Copy>(
     Ok(leaves)
 }
 
-// Makes what comes behind it.
+// Makes what is inserted after it.
 fn make_behind<A: Allocator + Copy>(
     alloc: A,
     tree: &mut Tree<A>,
@@ -185,7 +185,7 @@ fn make_entry<A: Allocator + Copy>(
     }
 }
 
-/// Makes all that comes in, as a plan says; no node that was there changes.
+/// Makes all that is inserted, as a plan says; no node that was there changes.
 pub(crate) fn make<A: Allocator + Copy>(
     alloc: A,
     tree: &mut Tree<A>,

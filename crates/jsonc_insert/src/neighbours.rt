@@ -1,4 +1,4 @@
-//! Where an element comes between two neighbours, read in the tree as it is, and how it comes there.
+//! Where an element is inserted between two neighbours, read in the tree as it is, and how.
 
 ghost use Rattle.std.specs.Prelude.{◌≡◌, ◌≤◌, ◌<◌, ◌+◌, ◌-◌, ◌∷◌, ◌++◌, IfOk, IfSome, None, OnOk, Some, is_some, length, option_map};
 ghost use Rattle.std.specs.Prelude.{Bool, slice_get, slice_index, true, ℕ};
@@ -15,18 +15,18 @@ use jsonc_layout::nodes::{element_at, is_element};
 use jsonc_tree::{Children, Tree};
 use std::alloc::{AllocError, Allocator};
 
-/// Where a new element comes, by the children that stand before it, and what comes with it.
+/// Where a new element is inserted, by the children that stand before it, and what is inserted with it.
 #[derive(Clone, Copy)]
 pub(crate) struct Neighbours {
-    /// What comes with it; its places are counted from one of the children on.
+    /// What is inserted with it; its places are counted from one of the children on.
     pub(crate) plan: Plan,
-    /// The child behind which it comes.
+    /// The child after which it is inserted.
     pub(crate) after: usize,
-    /// The child behind which a comma comes, if one is wanted.
+    /// The child after which a comma is inserted, if one is wanted.
     pub(crate) comma: Option<usize>,
 }
 
-// The element behind which another comes that is to have this number.
+// The element after which another is inserted that is to have this number.
 fn element_before<A: Allocator>(tree: &Tree<A>, container: usize, index: usize) -> Option<usize>
     requires in_tree { container < length tree.now.nodes }
     ensures element { result ≡ element_before tree.now.nodes (children_at tree.now.nodes container) index }
@@ -130,7 +130,7 @@ fn beside(row: &[usize], plan: Plan) -> Neighbours
     }
 }
 
-// Where an element comes that has none before it.
+// Where an element is inserted that has none before it.
 fn beside_front<A: Allocator + Copy>(
     alloc: A,
     tree: &Tree<A>,
@@ -147,7 +147,7 @@ fn beside_front<A: Allocator + Copy>(
     Ok(beside(&row, plan))
 }
 
-// Where an element comes behind another.
+// Where an element is inserted after another.
 fn beside_element<A: Allocator + Copy>(
     alloc: A,
     tree: &Tree<A>,
@@ -167,8 +167,8 @@ fn beside_element<A: Allocator + Copy>(
     Ok(beside(&row, plan))
 }
 
-/// Where an element comes as this number of a container, put on a line of its own or not, where the last
-/// of several lines has a comma or not.
+/// Where an element is inserted as this number of a container, put on a line of its own or not, where the
+/// last of several lines has a comma or not.
 pub(crate) fn neighbours_of<A: Allocator + Copy>(
     alloc: A,
     tree: &Tree<A>,
@@ -189,7 +189,7 @@ pub(crate) fn neighbours_of<A: Allocator + Copy>(
     beside_element(alloc, tree, several, commas, more, node)
 }
 
-/// Puts nodes without a parent directly behind a child of a container, in the time that they take.
+/// Puts nodes without a parent directly after a child of a container, in the time that they take.
 pub(crate) fn insert_after<A: Allocator>(
     tree: &mut Tree<A>,
     container: usize,

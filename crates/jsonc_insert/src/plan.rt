@@ -20,18 +20,18 @@ pub(crate) enum Gap {
     Line,
 }
 
-/// Where a new element comes into a row, and what comes with it.
+/// Where a new element is inserted into a row, and what is inserted with it.
 #[derive(Clone, Copy)]
 pub(crate) struct Plan {
-    /// Where a comma comes behind the element before it, if one is wanted there.
+    /// Where a comma is inserted after the element before it, if one is wanted there.
     pub(crate) comma: Option<usize>,
-    /// Where the element comes, before that comma has come.
+    /// Where the element is inserted, counted without that comma.
     pub(crate) place: usize,
-    /// What comes before it.
+    /// What is inserted before it.
     pub(crate) before: Gap,
-    /// Whether a comma comes behind it.
+    /// Whether a comma is inserted after it.
     pub(crate) comma_behind: bool,
-    /// What comes behind that.
+    /// What is inserted after that.
     pub(crate) behind: Gap,
 }
 
@@ -94,7 +94,7 @@ fn nth_element<A: Allocator>(tree: &Tree<A>, row: &[usize], index: usize) -> Opt
         .nth(index)
 }
 
-// Whether a comma comes past the trivia that a row begins with.
+// Whether a comma stands past the trivia that a row begins with.
 fn comma_comes<A: Allocator>(tree: &Tree<A>, after: &[usize]) -> bool
     ensures { result ≡ comma_comes tree.now.nodes after.now }
 {
@@ -113,7 +113,7 @@ fn has_comma<A: Allocator>(tree: &Tree<A>, row: &[usize], place: usize) -> bool
     comma_comes(tree, &row[place..])
 }
 
-// The place behind that comma, if there is one; else the place itself.
+// The place after that comma, if there is one; else the place itself.
 fn behind_comma<A: Allocator>(tree: &Tree<A>, row: &[usize], place: usize) -> usize
     requires { place ≤ length row.now }
     ensures place { result ≡ behind_comma tree.now.nodes row.now place }
@@ -130,7 +130,7 @@ fn behind_comma<A: Allocator>(tree: &Tree<A>, row: &[usize], place: usize) -> us
     place
 }
 
-// Where a comma is wanted behind the element that ends at a place.
+// Where a comma is wanted after the element that ends at a place.
 fn comma_wanted<A: Allocator>(tree: &Tree<A>, row: &[usize], place: usize) -> Option<usize>
     requires { place ≤ length row.now }
     ensures { result ≡ comma_wanted tree.now.nodes row.now place }
@@ -152,7 +152,7 @@ fn through_comments<A: Allocator>(tree: &Tree<A>, line: &[usize]) -> usize
     0
 }
 
-// The place behind the last comment on the line behind a place of a row.
+// The place after the last comment on the line that follows a place of a row.
 fn past_comments<A: Allocator>(tree: &Tree<A>, row: &[usize], place: usize) -> usize
     requires { place ≤ length row.now }
     ensures place { result ≡ past_comments tree.now.nodes row.now place }
@@ -194,7 +194,7 @@ fn plan_first<A: Allocator>(tree: &Tree<A>, several: bool, row: &[usize]) -> Pla
     }
 }
 
-/// The plan behind the element that ends at a place.
+/// The plan after the element that ends at a place.
 pub(crate) fn plan_behind<A: Allocator>(
     tree: &Tree<A>,
     several: bool,

@@ -34,13 +34,13 @@ pub(crate) struct Blanks<A: Allocator> {
 /// The blank lines directly inside the brackets of a container.
 #[derive(Drop)]
 pub(crate) struct BlankLines<A: Allocator> {
-    /// Those behind the first bracket.
+    /// Those after the first bracket.
     pub(crate) first: Blanks<A>,
     /// Those before the last one.
     pub(crate) last: Blanks<A>,
 }
 
-// Of blanks at a place the nodes behind the first line's end, through the last one.
+// Of blanks at a place the nodes after the first line's end, through the last one.
 fn behind_first_line<A: Allocator>(tree: &Tree<A>, place: usize, run: &[usize]) -> Stretch
     requires { place + length run.now < 2 ^ 64 }
     ensures stretch { result ≡ behind_first_line tree.now.nodes place run.now }
@@ -76,7 +76,7 @@ fn before_last_line<A: Allocator>(tree: &Tree<A>, place: usize, run: &[usize]) -
     }
 }
 
-// A node and the blanks directly behind it.
+// A node and the blanks directly after it.
 fn blanks_from<A: Allocator + Copy>(
     alloc: A,
     tree: &Tree<A>,
@@ -97,7 +97,7 @@ fn blanks_from<A: Allocator + Copy>(
     Ok(row)
 }
 
-// A stretch of a row, behind its first node.
+// A stretch of a row, after its first node.
 fn cut<A: Allocator>(alloc: A, row: &[usize], stretch: Stretch) -> Result<Blanks<A>, AllocError>
     requires from { 1 ≤ stretch.from }
     requires order { stretch.from ≤ stretch.to }
@@ -112,7 +112,7 @@ fn cut<A: Allocator>(alloc: A, row: &[usize], stretch: Stretch) -> Result<Blanks
     })
 }
 
-// The blank lines behind the first bracket.
+// The blank lines after the first bracket.
 fn first_blanks<A: Allocator + Copy>(
     alloc: A,
     tree: &Tree<A>,

@@ -223,7 +223,7 @@ pub(crate) fn insert_element_at<A: Allocator + Copy>(
     }
 }
 
-// Puts a value behind the last element of the array at a path.
+// Puts a value after the last element of the array at a path.
 pub(crate) fn append_element_at<A: Allocator + Copy>(
     alloc: A,
     tree: &mut Tree<A>,
@@ -264,7 +264,7 @@ pub(crate) fn insert_property_at<A: Allocator + Copy>(
     }
 }
 
-// Puts a property behind the last one of the object at a path.
+// Puts a property after the last one of the object at a path.
 pub(crate) fn append_property_at<A: Allocator + Copy>(
     alloc: A,
     tree: &mut Tree<A>,

@@ -42,7 +42,7 @@ pub enum Edit<A: Allocator> {
     ///
     /// The last step of the path leads to the property of an object. In a document whose properties
     /// are whole that is what `Replace` does; a property that lost its value by edits of single
-    /// leaves gets this one behind all that it holds.
+    /// leaves gets this one after all that it holds.
     SetValue(Vec<usize, A>, CstInputValue<A>),
     /// Sets an empty array or object as the value of the property at a path, unless it has one.
     ///
@@ -51,7 +51,7 @@ pub enum Edit<A: Allocator> {
     EnsureValue(Vec<usize, A>, Shape),
     /// Sets the truth value at a path.
     ///
-    /// Memory is allocated only where `false` would come to stand directly behind a hexadecimal
+    /// Memory is allocated only where `false` would come to stand directly after a hexadecimal
     /// number, and a space has to be inserted between them: `[0x1true]` is `[0x1 false]` then.
     SetBoolean(Vec<usize, A>, bool),
     /// Puts the array or object at a path on several lines, where no line ends among its children
@@ -61,7 +61,7 @@ pub enum Edit<A: Allocator> {
     EnsureMultiline(Vec<usize, A>),
     /// Inserts a value into the array at a path, before its element of this number.
     ///
-    /// The number counts from 0; where the array has fewer elements, the value is inserted behind
+    /// The number counts from 0; where the array has fewer elements, the value is inserted after
     /// the last. `[1, 2]` with 9 at 1 is `[1, 9,  2]`.
     InsertElement(Vec<usize, A>, usize, CstInputValue<A>),
     /// Appends a value to the array at a path.
@@ -69,7 +69,7 @@ pub enum Edit<A: Allocator> {
     /// Inserts a property into the object at a path, before its property of this number.
     ///
     /// The number counts from 0; where the object has fewer properties, the new one is inserted
-    /// behind the last. The object is put on several lines.
+    /// after the last. The object is put on several lines.
     InsertProperty(Vec<usize, A>, usize, String<A>, CstInputValue<A>),
     /// Appends a property of this name and value to the object at a path.
     AppendProperty(Vec<usize, A>, String<A>, CstInputValue<A>),
@@ -80,7 +80,7 @@ pub enum Edit<A: Allocator> {
     EnsureProperty(Vec<usize, A>, String<A>, Shape, Over),
     /// Sets or removes the trailing commas of the array or object at a path, and of all below it.
     ///
-    /// With `IfMultiline` one is inserted behind the last element or property wherever a line ends
+    /// With `IfMultiline` one is inserted after the last element or property wherever a line ends
     /// in the row and none stands there, and with `Never` it is removed. Memory is allocated only
     /// for a comma that is inserted; where that fails, commas before may have been set.
     SetTrailingCommas(Vec<usize, A>, TrailingCommaMode),
@@ -102,7 +102,7 @@ pub enum Edit<A: Allocator> {
     /// At the empty path it is a comment of the document's value. The text is one whole comment, from
     /// `//` without a line's end, or from `/*` to the first `*/`, and the options have to allow
     /// comments. Above, it stands on a line of its own with the entry's indent: `{ "a": 1 }` is put on
-    /// lines there. After, it stands behind the entry's comma, with one space before it: `[1, 2]` with
+    /// lines there. After, it stands after the entry's comma, with one space before it: `[1, 2]` with
     /// `/*c*/` after its first element is `[1, /*c*/ 2]`. Any other text is an error, and so is, after
     /// an entry, a comment that begins with `//` where anything follows on the line.
     InsertComment(Vec<usize, A>, Place, String<A>),

@@ -27,7 +27,7 @@ pub fn edits_make_steps()
 {}
 
 /// No call, raw or structured, by a path or by the number of a node, made or refused, moves a node from one
-/// parent to another: what had a parent has it still, or is detached, at place 0. So behind any list of
+/// parent to another: what had a parent has it still, or is detached, at place 0. So after any list of
 /// calls the nodes are a tree, and what has another parent than it had was detached between two of them.
 /// A call that changes no node that was there leaves the document, as an error, and so does a call of a node
 /// that does not stand in the document, and any list of such calls, so it prints what it did. An edit, made or

@@ -99,8 +99,8 @@ fn entry_of<A: Allocator>(tree: &Tree<A>, container: usize, place: usize) -> Opt
     }
 }
 
-/// What leaves with a path: the document's value, where the path is empty, or the element of an array or
-/// the property of an object that its last step leads to.
+/// The entry that a path leads to: the document's value, where the path is empty, or the element of an array
+/// or the property of an object that its last step leads to.
 pub fn find_entry<A: Allocator>(tree: &Tree<A>, path: &[usize]) -> Option<usize>
     ensures found { FindsExactly result (IsEntryAt tree.now.nodes path.now) }
     ensures in_tree { IsThere tree.now.nodes result }

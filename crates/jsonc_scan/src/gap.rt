@@ -42,7 +42,7 @@ fn long_gap_end(text: &str, start: usize) -> usize
     blanks_end(text, place)
 }
 
-/// Whether a character of ASCII stands at a place that is behind its blanks.
+/// Whether a character of ASCII stands at a place that is after its blanks.
 #[inline(always)]
 fn has_no_blank(text: &str, place: usize) -> bool
     ensures { IsTrue result → IsTrue (no is_blank (next (rest text.now place))) }

@@ -130,7 +130,7 @@ impl<'a, A: Allocator + Copy> Scanner<'a, A> {
         self.byte_index += 1;
     }
 
-    /// Goes on from a place behind the last token, up to which only a gap stands.
+    /// Goes on from a place after the last token, up to which only a gap stands.
     #[doc(hidden)]
     #[inline(always)]
     pub fn pass_to(&mut self, place: usize)

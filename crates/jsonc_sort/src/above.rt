@@ -22,13 +22,13 @@ use std::alloc::{AllocError, Allocator};
 pub struct LeadRead {
     /// Whether a blank line does.
     pub blank_line: bool,
-    /// How many comments do, behind the end of a line.
+    /// How many comments do, after the end of a line.
     pub comments: usize,
     /// How many of these are a header: those above the last blank line.
     pub header: usize,
 }
 
-// How many comments stand in a lead behind the end of a line that is there.
+// How many comments stand in a lead after the end of a line that is there.
 fn comments_behind<A: Allocator>(tree: &Tree<A>, lead: &[usize]) -> usize
     requires { IsTrue (list_any (is_newline_at (content_at tree.now.nodes)) lead.now) }
     ensures { result ≡ comments (content_at tree.now.nodes) (above (content_at tree.now.nodes) lead.now) }
@@ -83,7 +83,7 @@ fn read_row<A: Allocator + Copy>(
     Ok(told)
 }
 
-// Puts a node behind others where it is a comment.
+// Puts a node after others where it is a comment.
 fn push_comment<A: Allocator>(
     tree: &Tree<A>,
     found: &mut Vec<usize, A>,
@@ -114,7 +114,7 @@ fn push_comments<A: Allocator>(
     Ok(())
 }
 
-// Puts the comments above an element behind others.
+// Puts the comments above an element after others.
 fn push_above<A: Allocator>(
     tree: &Tree<A>,
     found: &mut Vec<usize, A>,

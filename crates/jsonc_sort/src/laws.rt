@@ -13,9 +13,9 @@ ghost use Rattle.jsonc_sort.specs.Rearranged.{SortsChildren};
 ghost use Rattle.jsonc_sort.specs.Sorting.{Headers};
 ghost use Rattle.jsonc_sort.specs.Worked.{WorkedDocuments, WorkedHeaders, WorkedSorts};
 
-/// Worked rows: a comment goes with the element that it stands behind, blank lines are left behind the
-/// first bracket, and where blanks stand before the end of a line they stay behind the comment that
-/// comes there. Where commas are missing, each element but the last gets one.
+/// Worked rows: a comment goes with the element that it stands after, blank lines are left after the
+/// first bracket, and where blanks stand before the end of a line they stay after the comment that
+/// is put there. Where commas are missing, each element but the last gets one.
 pub fn worked_rows()
     ensures { WorkedSorts }
 {}
@@ -38,9 +38,10 @@ pub fn sorted_rows_keep_their_nodes()
     ensures marks { (top : ℕ → Top) (s : Sort) (test : Mark → Bool) → KeepsMarks top s test }
 {}
 
-/// So where the elements of an array or object have come in an order, each comment that stood in it, each
+/// So where the elements of an array or object have been put in an order, each comment that stood in it, each
 /// element and each bracket is its child still, and once; and every other node has the children that it had,
-/// so comments deeper stand where they stood. Whitespace, ends of lines and commas alone come or leave.
+/// so comments deeper stand where they stood. Whitespace, ends of lines and commas alone are inserted or
+/// removed.
 pub fn sorted_containers_keep_their_children()
     ensures { (old new : List Node) (c : ℕ) (h : Headers) (order : List ℕ) → SortsChildren old new c h order }
 {}
@@ -52,7 +53,7 @@ pub fn sorted_rows_move_their_values()
 {}
 
 /// It is a row of the container, node by node, and its line comments end with their lines. A comma
-/// stands behind each element but the last, so no two literals without quotes meet in it.
+/// stands after each element but the last, so no two literals without quotes meet in it.
 pub fn sorted_rows_stay_rows()
     ensures alone { (o : Options) (kind : RowKind) (top : ℕ → Top) (s : Sort) (n : Option ℕ) → KeepsRow o kind top s n }
     ensures lines { (kind : RowKind) (top : ℕ → Top) (s : Sort) → KeepsLines kind top s }

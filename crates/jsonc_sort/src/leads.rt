@@ -109,7 +109,7 @@ fn before_comment<A: Allocator>(tree: &Tree<A>, number: usize, row: &[usize]) ->
     row.len()
 }
 
-// How many nodes at the end stand behind the last end of a line, or all.
+// How many nodes at the end stand after the last end of a line, or all.
 fn last_line<A: Allocator>(tree: &Tree<A>, row: &[usize]) -> usize
     ensures count { result ≡ suffix_len (is_no_newline_at (content_at tree.now.nodes)) row.now }
     ensures within { result ≤ length row.now }
@@ -179,7 +179,7 @@ fn header_length<A: Allocator>(
     header_by(tree, pinned, row)
 }
 
-// A lead in which a line ends: what is through its end stays, and a header behind that, and the
+// A lead in which a line ends: what is through its end stays, and a header after that, and the
 // whitespace before the element.
 fn parts_of_lines<A: Allocator>(
     tree: &Tree<A>,

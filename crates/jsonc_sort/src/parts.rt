@@ -1,4 +1,4 @@
-//! What belongs to an element behind it.
+//! What belongs to an element after it.
 
 ghost use Rattle.std.specs.Prelude.{◌≡◌, ◌≤◌, length};
 ghost use Rattle.jsonc_tree.specs.Tree.{content_at};
@@ -10,7 +10,7 @@ use jsonc_layout::rows::{all_inline_trivia, has_newline, last_spaces, line_lengt
 use jsonc_tree::Tree;
 use std::alloc::Allocator;
 
-/// What leaves of a tail with its comma: a stretch, empty where there is none.
+/// What is removed from a tail with its comma: a stretch, empty where there is none.
 #[derive(Clone, Copy)]
 pub(crate) struct Comma {
     pub(crate) from: usize,
@@ -48,7 +48,7 @@ fn before_blank<A: Allocator>(tree: &Tree<A>, row: &[usize], place: usize) -> us
     place
 }
 
-/// What leaves of a tail with its comma: that, and a whitespace leaf directly before it.
+/// What is removed from a tail with its comma: that, and a whitespace leaf directly before it.
 pub(crate) fn comma_in<A: Allocator>(tree: &Tree<A>, tail: &[usize]) -> Comma
     ensures { IsComma (content_at tree.now.nodes) tail.now result }
 {
@@ -92,7 +92,7 @@ fn comments_on_line<A: Allocator>(tree: &Tree<A>, last: bool, row: &[usize]) -> 
     up_to_spaces(tree, &row[..line_length(tree, row)])
 }
 
-/// How many nodes behind an element, which is the last or not, belong to it: through its comma, and the
+/// How many nodes after an element, which is the last or not, belong to it: through its comma, and the
 /// comments on its line.
 pub fn tail_length<A: Allocator>(tree: &Tree<A>, last: bool, gap: &[usize]) -> usize
     ensures count { result ≡ tail_length (content_at tree.now.nodes) last gap.now }

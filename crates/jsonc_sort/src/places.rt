@@ -25,9 +25,9 @@ pub(crate) struct Places {
     pub(crate) indent: usize,
     /// The element.
     pub(crate) element: usize,
-    /// Where what leaves with its comma begins.
+    /// Where what is removed with its comma begins.
     pub(crate) comma: usize,
-    /// The place behind the comma; the same where there is none.
+    /// The place after the comma; the same where there is none.
     pub(crate) behind: usize,
     /// The end of what belongs to the element.
     pub(crate) end: usize,

@@ -1,6 +1,6 @@
 //! A container's row with its elements in another order, planned before it changes.
 //!
-//! The row is planned from its end on, since a line's end comes behind a line comment by what follows it.
+//! The row is planned from its end on: whether a line comment gets a line's end depends on what follows it.
 
 ghost use Rattle.std.specs.Prelude.{◌≡◌, ◌&&◌, ◌<◌, ◌≤◌, ◌||◌, ◌∷◌, [], IfOk, IsPermutation, OnOk, false};
 ghost use Rattle.std.specs.Prelude.{length, nat_lt, slice_index};
@@ -88,7 +88,7 @@ fn lacks_end<A: Allocator>(tree: &Tree<A>, plan: &Plan<A>, node: usize) -> bool
     is_line_comment(tree, node) && plan.goes_on
 }
 
-// Puts a child before what is planned, with a line's end behind it where it lacks one.
+// Puts a child before what is planned, with a line's end after it where it lacks one.
 fn put_node<A: Allocator>(
     tree: &mut Tree<A>,
     plan: &mut Plan<A>,
@@ -227,7 +227,7 @@ fn number_at(order: &[usize], count: usize, place: usize) -> usize
 }
 
 /// The row with its elements in an order, which names the old number of each, by the numbers of the
-/// nodes. The leaves that come are made, and have no parent yet.
+/// nodes. The leaves that are inserted are made, and have no parent yet.
 pub(crate) fn plan_row<A: Allocator>(
     alloc: A,
     tree: &mut Tree<A>,

@@ -8,7 +8,7 @@
 //! - [`sound`]: soundness is three conditions, none of which asks for commas. Each node is what it is
 //!   alone (`specs/Alone.antt`); each leaf ends before the next character that is printed
 //!   (`specs/Adjacent.antt`); and each line comment ends with its line, in an array or object perhaps
-//!   behind whitespace (`jsonc_build`'s `specs/Lines.antt`, with laws in `specs/LooseLines.antt`).
+//!   after whitespace (`jsonc_build`'s `specs/Lines.antt`, with laws in `specs/LooseLines.antt`).
 //!   Together they are [soundness](sound::sound_trees) (`specs/SoundTrees.antt`): a parsed document has
 //!   it, and a tree that has it prints a text of the grammar with its value. Only where two literals
 //!   without quotes would meet does a change have to put a space between them (`specs/Spaces.antt`).
@@ -17,10 +17,10 @@
 //!   with (`specs/Marks.antt`). A text has one list of them, and a sound document's tree those of the
 //!   text that it prints. Where one stretch of leaves is replaced by another (`specs/MarkChanges.antt`),
 //!   all marks outside of it stay.
-//! - [`rows`]: what becomes of a row where an element leaves it, with whitespace and comments directly
-//!   before it, trivia directly behind it, and one comma (`specs/Leaving.antt`); where a first value
-//!   comes with the ends of lines that it needs (`specs/Coming.antt`); and where a property is replaced by
-//!   another (`specs/Properties.antt`).
+//! - [`rows`]: what becomes of a row where an element is removed, with whitespace and comments directly
+//!   before it, trivia directly after it, and one comma (`specs/Leaving.antt`); where a first value is
+//!   inserted with the ends of lines that it needs (`specs/Coming.antt`); and where a property is replaced
+//!   by another (`specs/Properties.antt`).
 #![tactic(auto)]
 
 pub mod changes;

@@ -20,8 +20,8 @@ pub fn one_list_of_marks()
     ensures some { (o : Options) (t : List ℕ) → HasMarksOfTokens o t }
 {}
 
-/// What the mark of a comment leaves out: of a block comment nothing, and behind a line comment all
-/// blanks, whether they are the comment's or stand in whitespace behind it.
+/// What the mark of a comment leaves out: of a block comment nothing, and after a line comment all
+/// blanks, whether they are the comment's or stand in whitespace after it.
 pub fn comments_without_end_blanks()
     ensures block { (s : List ℕ) → EndsWithNoBlank s }
     ensures line { (s blanks : List ℕ) → LeavesOutBlanks s blanks }
@@ -49,7 +49,7 @@ pub fn values_and_trivia_give_way()
     ensures last { (contents : List Content) → LastMarkIsComment contents }
 {}
 
-/// Blanks and line ends have no marks: with a comment and blanks before it one mark leaves, and a space
+/// Blanks and line ends have no marks: with a comment and blanks before it one mark is removed, and a space
 /// that is put before an element changes none.
 pub fn blanks_have_no_marks()
     ensures comment { (blanks : List Content) (s : List ℕ) (x y : List Content) → OneMarkLeaves blanks s x y }

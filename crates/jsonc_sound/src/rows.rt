@@ -1,5 +1,5 @@
-//! Laws of rows from which an element leaves, or in which a value comes or a property is replaced. Each is
-//! the contract of a function that does nothing.
+//! Laws of rows from which an element is removed, into which a value is put, or in which a property is
+//! replaced. Each is the contract of a function that does nothing.
 ghost use Rattle.std.specs.Prelude.{List, ℕ};
 ghost use Rattle.jsonc_text.specs.Options.{Options};
 ghost use Rattle.jsonc_text.specs.Plain.{Plain};
@@ -10,7 +10,7 @@ ghost use Rattle.jsonc_sound.specs.EntryLaws.{SoundWithoutValue, NoValueWithoutV
 ghost use Rattle.jsonc_sound.specs.EntryLaws.{SoundWithFirstValue, HasFirstValue, MarksWithFirstValue};
 ghost use Rattle.jsonc_sound.specs.Properties.{SoundWithProperty, MembersWithProperty, ValueWithProperty, MarksWithProperty};
 
-/// A sound document stays sound where an element leaves one of its containers, under all options.
+/// A sound document stays sound where an element is removed from one of its containers, under all options.
 pub fn documents_without_an_element_are_sound()
     ensures { (o : Options) (t : OrderedTree) → SoundWithoutElement o t }
 {}
@@ -23,21 +23,21 @@ pub fn values_without_an_element()
     ensures document { (o : Options) (t : OrderedTree) (x : Plain) → ValueWithoutElement o t x }
 {}
 
-/// Of the marks those of the element leave, and comments beside it.
+/// Of the marks those of the element are removed, and those of comments beside it.
 pub fn marks_without_an_element()
     ensures { (t : OrderedTree) → MarksWithoutElement t }
 {}
 
-/// Where its value leaves a sound document, this stays sound and has none, and of its marks those of the
-/// value have left, and comments beside it.
+/// Where its value is removed from a sound document, this stays sound and has none, and of its marks those
+/// of the value are removed, and those of comments beside it.
 pub fn documents_without_a_value()
     ensures sound { (o : Options) (top : Top) (row left new : OrderedTree) → SoundWithoutValue o top row left new }
     ensures value { (o : Options) (top : Top) (row left new : OrderedTree) → NoValueWithoutValue o top row left new }
     ensures marks { (top : Top) (row left new : OrderedTree) → MarksWithoutValue top row left new }
 {}
 
-/// Where a whole value comes into a sound document that had none, this is sound and has the value, and
-/// the value's marks have come.
+/// Where a whole value is put into a sound document that had none, this is sound and has the value, and
+/// the value's marks are new.
 pub fn documents_with_a_first_value()
     ensures sound { (o : Options) (top : Top) (v : Plain) (row new : OrderedTree)
         → SoundWithFirstValue o top v row new }

@@ -69,12 +69,12 @@ pub fn documents_stay_sound_with_trivia()
     ensures space { (o : Options) (t : OrderedTree) → StaysSoundWithSpaceForComment o t }
 {}
 
-/// In `[1[2]3]` and `["a"[1]true]` spaces come where the rule wants them.
+/// In `[1[2]3]` and `["a"[1]true]` spaces are inserted where the rule wants them.
 pub fn worked_spaces()
     ensures { WorkedSpaces }
 {}
 
-/// Where a line comment's newline stands behind whitespace, trivia is a gap all the same; and line
+/// Where a line comment's newline stands after whitespace, trivia is a gap all the same; and line
 /// comments still end so where a value is replaced, or one stretch follows another.
 pub fn loose_lines_are_gaps()
     ensures gaps { (o : Options) (loose : Bool) (t r : OrderedTree) → LooseTriviaIsGap o loose t r }
@@ -82,13 +82,13 @@ pub fn loose_lines_are_gaps()
     ensures apart { (loose at_end : Bool) (first second : OrderedTree) → LooseLinesComeApart loose at_end first second }
 {}
 
-/// `true` is replaced by `false`, and `false` to `true`, save where `false` would stand directly behind a
+/// `true` is replaced by `false`, and `false` to `true`, save where `false` would stand directly after a
 /// hexadecimal number.
 pub fn booleans_give_way()
     ensures { (o : Options) (t : OrderedTree) → StaysSoundWithBoolean o t }
 {}
 
-/// Soundness, where line comments may end behind whitespace: parsed documents have it, its documents
+/// Soundness, where line comments may end after whitespace: parsed documents have it, its documents
 /// print documents of the grammar, and changes of rows and values keep it, under all options.
 pub fn sound_trees()
     ensures apart { (o : Options) (t : OrderedTree) → SoundTreesComeApart o t }
@@ -107,14 +107,14 @@ pub fn worked_edits()
     ensures taken { (o : Options) (t : OrderedTree) → KeptByTakingOut o t }
 {}
 
-/// A space before an element, behind another node of its row, keeps soundness.
+/// A space before an element, after another node of its row, keeps soundness.
 pub fn spaces_may_be_put()
     ensures { (o : Options) (t : OrderedTree) → KeptWithSpace o t }
 {}
 
 /// Whether a document stays sound without a comment, or with another value, is seen in the row of the
 /// change: no two literals without quotes meet in it that did not. Of a property's value it is seen
-/// behind it in the row of the object.
+/// after it in the row of the object.
 pub fn rows_tell()
     ensures comment { (o : Options) (t : OrderedTree) → KeptWithoutCommentInRow o t }
     ensures value { (o : Options) (t : OrderedTree) → KeptByValueInRow o t }

@@ -69,9 +69,9 @@ impl<T: Drop> From<AllocFailed<T>> for EditError {
 /// Where trailing commas are to stand. By default nowhere.
 #[derive(Clone, Copy, Debug, PartialEq, Eq)]
 pub enum TrailingCommaMode {
-    /// Behind no last element or property.
+    /// After no last element or property.
     Never,
-    /// Behind the last one of each array and object on several lines.
+    /// After the last one of each array and object on several lines.
     IfMultiline,
 }
 

@@ -14,7 +14,7 @@ use crate::node::{Ends, Kind, Node, bare_node, node_in};
 use crate::tree::Tree;
 use std::alloc::{AllocError, Allocator};
 
-/// A tree under way: nodes are added behind the last child of one container at a time.
+/// A tree under way: nodes are added after the last child of one container at a time.
 ///
 /// Which child that is is written into the container only when that is left.
 #[derive(Drop)]
@@ -24,7 +24,7 @@ pub struct Growing<A: Allocator> {
     last: WideLink,
 }
 
-// Adds a node behind the last child of a container, but leaves the container's link to that.
+// Adds a node after the last child of a container, but leaves the container's link to that.
 #[inline(always)]
 fn push_behind<A: Allocator>(
     nodes: &mut Vec<Node<A>, A>,
@@ -119,7 +119,7 @@ impl<A: Allocator> Growing<A> {
         Ok(number)
     }
 
-    /// Leaves the container at hand, and goes on behind the last child of another.
+    /// Leaves the container at hand, and goes on after the last child of another.
     pub fn enter(&mut self, container: usize)
         requires growing { IsGrowing self.old }
         requires in_tree { container < length (nodes_so_far self.old) }

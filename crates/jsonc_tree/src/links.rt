@@ -49,7 +49,7 @@ pub(crate) fn set_ahead<A: Allocator>(
     }
 }
 
-// The node behind a gap leads back to this one, or the container if there is none behind.
+// The node after a gap leads back to this one, or the container if there is none after it.
 pub(crate) fn set_back<A: Allocator>(
     nodes: &mut Vec<Node<A>, A>,
     c: usize,

@@ -272,7 +272,7 @@ pub(crate) fn bare_node<A: Allocator>(kind: Kind<A>) -> Node<A>
     }
 }
 
-// A node that stands behind this one in a container's row, at its end.
+// A node that stands after this one in a container's row, at its end.
 #[inline(always)]
 pub(crate) fn node_in<A: Allocator>(
     kind: Kind<A>,

@@ -1,4 +1,4 @@
-//! Nodes that come into a row and go out of one.
+//! Nodes that are inserted into a row and removed from one.
 
 ghost use Rattle.std.specs.Prelude.{◌≡◌, IsTrue, ◌<◌, ◌≤◌, ◌+◌, ◌∷◌, [], Some};
 ghost use Rattle.std.specs.Prelude.{vec_len};
@@ -79,7 +79,7 @@ pub(crate) fn take_between<A: Allocator>(
     take_out(nodes, c, at);
 }
 
-// Puts nodes that stand alone into a gap of a row, one behind the other.
+// Puts nodes that stand alone into a gap of a row, one after the other.
 pub(crate) fn put_row<A: Allocator>(
     nodes: &mut Vec<Node<A>, A>,
     c: usize,

@@ -92,7 +92,7 @@ fn child_of<A: Allocator>(nodes: &Vec<Node<A>, A>, c: usize, place: usize) -> us
     n
 }
 
-// The node that comes after those below `n`, before what is below `end` is over.
+// The node after those below `n`, before what is below `end` is over.
 fn next_after<A: Allocator>(nodes: &Vec<Node<A>, A>, end: usize, n: usize) -> Option<usize>
     requires stored { IsStored nodes.now.items }
     requires in_tree { n < vec_len nodes.now }
@@ -114,7 +114,7 @@ fn next_after<A: Allocator>(nodes: &Vec<Node<A>, A>, end: usize, n: usize) -> Op
     None
 }
 
-// The node that comes after `n` where what is below `end` is walked in order.
+// The node after `n` where what is below `end` is walked in order.
 pub(crate) fn node_after<A: Allocator>(
     nodes: &Vec<Node<A>, A>,
     end: usize,

@@ -125,7 +125,7 @@ impl<'a, A: Allocator + Copy> Context<'a, A> {
         Range::new(self.scanner.token_start(), self.scanner.token_end())
     }
 
-    // Tells a receiver of the gap behind the last token, and passes as much of it as the receiver did, where nothing
+    // Tells a receiver of the gap after the last token, and passes as much of it as the receiver did, where nothing
     // is collected.
     #[inline(always)]
     fn pass_gap<R: Receiver<String<A>>>(&mut self, to: &mut R) -> Result<(), R::Error>

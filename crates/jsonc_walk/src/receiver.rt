@@ -69,8 +69,8 @@ pub trait Receiver<S: Text> {
     fn is_whole(&self) -> bool
         ensures { result ≡ whole };
 
-    /// Passes as much as it likes of the gap at a place that it has come to, or that stands behind a comma or a colon
-    /// there. Answers up to where. It has come to whatever place the rest of the gap leads to.
+    /// Passes as much as it likes of the gap at a place that it has come to, or that stands after a comma or a
+    /// colon there. Answers up to where. It has come to whatever place the rest of the gap leads to.
     fn pass_gap(&mut self, from: usize) -> Result<usize, Self::Error>
         requires behind { IsBehind (source self.old) (reached self.old) from }
         requires boundary { IsCharBoundary (source self.old).bytes from }
@@ -141,7 +141,7 @@ pub trait Receiver<S: Text> {
         ensures reached { OnOk result (reached self.new (start + 1)) }
         ensures held { IfOk result (λ a. holds_elements self.old self.new a start []) };
 
-    /// An element of an array, behind the others.
+    /// An element of an array, after the others.
     fn element(&mut self, array: &mut Self::Array, item: Self::Item) -> Result<(), Self::Error>
         requires held { (s : Self) × (m : Self) × (i : ℕ) × (xs : List Located) × (x : Located)
             × holds_elements s m array.old i xs × makes m self.old item x }

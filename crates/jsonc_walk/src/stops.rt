@@ -101,7 +101,7 @@ impl<'a, A: Allocator + Copy> Context<'a, A> {
         self.stop_here(ParseErrorKind::ExpectedObjectValue)
     }
 
-    /// Reading stops at the last token, behind the value of the text.
+    /// Reading stops at the last token, after the value of the text.
     #[cold]
     pub(crate) fn stop_behind_value(&mut self) -> Stopped
         ensures fault { IsFaultHere self.old ⊥ self.new.fault }
@@ -132,7 +132,7 @@ impl<'a, A: Allocator + Copy> Context<'a, A> {
         self.stop_here(kind)
     }
 
-    /// Reading stops at a closing bracket behind a comma in this range, where none is allowed there.
+    /// Reading stops at a closing bracket after a comma in this range, where none is allowed there.
     #[cold]
     pub(crate) fn stop_at_comma(&mut self, comma: Range) -> Stopped
         requires { Spans (text_in self.old) comma.start comma.end }

@@ -247,7 +247,7 @@ fn parse_value<'a, A: Allocator + Copy, R: Receiver<String<A>>>(
     }
 }
 
-// The element that begins with the last token, put behind the others. A string or a number is made where it
+// The element that begins with the last token, put after the others. A string or a number is made where it
 // is to stand.
 #[cycle(parse)]
 #[inline(always)]

@@ -30,7 +30,7 @@ pub fn documents_say_the_same()
 
 /// Then each array or object there is as the mode says: with `Never` none has a trailing comma, with
 /// `IfMultiline` none wants one. Where memory was refused, each of those before is so. So it is in any
-/// document, but that `Never` leaves a comma where several stood behind the last element, which is in no
+/// document, but that `Never` keeps a comma where several stood after the last element, which is in no
 /// sound one. Where all is so before, nothing changes; so of a sound document nothing does a second time.
 /// The same arrays and objects are there afterwards, in the same order. After `Never` the array or object,
 /// or the document, is one of options that allow no trailing comma. After `IfMultiline` no trailing comma is
@@ -53,9 +53,9 @@ pub fn commas_are_set()
         → KeepsHolders mode old c new }
 {}
 
-/// Worked documents: in `[`, `  1,`, `  {"a": [2]}`, `]`, each on a line, a comma is wanted behind the
-/// object alone, and once it is there it is the one that leaves; so is a comma that is last in the row, in
-/// the place of the bracket. What stands in a property that has lost its colon is not reached from above,
+/// Worked documents: in `[`, `  1,`, `  {"a": [2]}`, `]`, each on a line, a comma is wanted after the
+/// object alone, and once it is there it is the one that is removed; so is a comma that is last in the
+/// row, in the place of the bracket. What stands in a property that has lost its colon is not reached from above,
 /// but its own comma can be set.
 pub fn worked_documents()
     ensures holders { holders bare_array 0 ≡ 1 ∷ 9 ∷ 15 ∷ [] }

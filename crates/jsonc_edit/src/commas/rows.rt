@@ -19,8 +19,8 @@ fn comma_gone<A: Allocator>(tree: &Tree<A>, container: usize) -> Option<usize>
     trailing_comma(tree, last_child_element(tree, container)?)
 }
 
-// The node behind which a comma is to come: the last element of a container on several lines, if it
-// has none.
+// The node after which a comma is to be inserted: the last element of a container on several lines, if
+// it has none.
 fn comma_wanted_behind<A: Allocator>(tree: &Tree<A>, container: usize) -> Option<usize>
     requires { container < length tree.now.nodes }
     ensures { result ≡ comma_wanted_behind tree.now.nodes container }
@@ -53,7 +53,7 @@ fn take_comma<A: Allocator>(tree: &mut Tree<A>, container: usize)
     }
 }
 
-// Puts a comma directly behind a child.
+// Puts a comma directly after a child.
 fn put_comma<A: Allocator>(
     tree: &mut Tree<A>,
     container: usize,
@@ -69,7 +69,7 @@ fn put_comma<A: Allocator>(
     Ok(())
 }
 
-// Puts a comma behind a container's last element, if one is wanted there.
+// Puts a comma after a container's last element, if one is wanted there.
 fn give_comma<A: Allocator>(tree: &mut Tree<A>, container: usize) -> Result<(), AllocError>
     requires { container < length tree.old.nodes }
     ensures given { OnOk result (GainsComma tree.old.nodes tree.new.nodes container) }

@@ -58,7 +58,7 @@ fn is_met<A: Allocator>(tree: &Tree<A>, end: usize, node: usize) -> bool
     is_reached(tree, end, node)
 }
 
-// The node that comes behind those below a node, before what is below `end` is over.
+// The node after those below a node, before what is below `end` is over.
 fn next_past<A: Allocator>(tree: &Tree<A>, end: usize, node: usize) -> Option<usize>
     requires in_tree { node < length tree.now.nodes }
     requires over { IsOver tree.now.nodes end node }
@@ -81,7 +81,7 @@ fn next_past<A: Allocator>(tree: &Tree<A>, end: usize, node: usize) -> Option<us
     None
 }
 
-// The node that comes next after one that is reached.
+// The next node after one that is reached.
 fn next_inside<A: Allocator>(tree: &Tree<A>, end: usize, node: usize) -> Option<usize>
     requires in_tree { node < length tree.now.nodes }
     requires over { IsOver tree.now.nodes end node }
@@ -97,7 +97,7 @@ fn next_inside<A: Allocator>(tree: &Tree<A>, end: usize, node: usize) -> Option<
     next_past(tree, end, node)
 }
 
-// The node at which a walk goes on behind one at which it does not stop: what is below a node that is not
+// The node at which a walk goes on after one at which it does not stop: what is below a node that is not
 // reached is passed over. Nothing is below a leaf, so nobody asks whether it is reached: to tell that, its
 // row is read.
 fn next_from<A: Allocator>(tree: &Tree<A>, end: usize, node: usize) -> Option<usize>
@@ -140,7 +140,7 @@ fn holder_from<A: Allocator>(tree: &Tree<A>, end: usize, from: Option<usize>) ->
     None
 }
 
-// The array or object that comes next after one.
+// The next array or object after one.
 fn next_holder<A: Allocator>(tree: &Tree<A>, end: usize, node: usize) -> Option<usize>
     requires in_tree { node < length tree.now.nodes }
     requires over { IsOver tree.now.nodes end node }
@@ -158,11 +158,11 @@ fn next_holder<A: Allocator>(tree: &Tree<A>, end: usize, node: usize) -> Option<
 /// values of properties.
 ///
 /// With `IfMultiline` the last element of an array or object that has a newline among its children gets
-/// a comma directly behind it, if it has none; with `Never` the comma behind the last element leaves.
-/// The first comma behind it leaves, also where that is the last child, as the bracket is gone. So then
-/// each of these arrays and objects is as the mode says, save where more than one comma stood. A comma that
-/// comes alone wants memory; where it is refused, the commas of arrays and objects before have been set,
-/// and nothing else has changed. A document that the node does not stand in stays, then too.
+/// a comma directly after it, if it has none; with `Never` the comma after the last element is removed.
+/// The first comma after it is removed, also where that is the last child, as the bracket is gone. So then
+/// each of these arrays and objects is as the mode says, save where more than one comma stood. Only a comma
+/// that is inserted wants memory; where it is refused, the commas of arrays and objects before have been
+/// set, and nothing else has changed. A document that the node does not stand in stays, then too.
 pub fn set_trailing_commas<A: Allocator>(
     tree: &mut Tree<A>,
     container: usize,

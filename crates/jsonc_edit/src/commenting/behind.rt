@@ -1,4 +1,4 @@
-//! A comment that comes behind an entry.
+//! A comment that is inserted after an entry.
 
 ghost use Rattle.std.specs.Prelude.{◌≡◌, ◌<◌, ◌+◌, None, OnErr, OnOk, Some, length, map};
 ghost use Rattle.jsonc_tree.specs.Building.{Keeps};
@@ -20,7 +20,7 @@ use jsonc_layout::nodes::{after_inline_trivia, is_comma, is_newline, is_whitespa
 use jsonc_tree::Tree;
 use std::alloc::{AllocError, Allocator};
 
-// The comma behind a child on its line, with nothing but whitespace and comments between; or the child.
+// The comma after a child on its line, with nothing but whitespace and comments between; or the child.
 fn end_of_entry<A: Allocator>(tree: &Tree<A>, node: usize) -> usize
     requires { node < length tree.now.nodes }
     ensures end { result ≡ end_of_entry tree.now.nodes node }
@@ -32,7 +32,7 @@ fn end_of_entry<A: Allocator>(tree: &Tree<A>, node: usize) -> usize
     }
 }
 
-// The last of the whitespace leaves directly behind a node, or the node.
+// The last of the whitespace leaves directly after a node, or the node.
 fn last_blank<A: Allocator>(tree: &Tree<A>, node: usize) -> usize
     requires { node < length tree.now.nodes }
     ensures blank { result ≡ last_blank tree.now.nodes node }
@@ -48,7 +48,7 @@ fn last_blank<A: Allocator>(tree: &Tree<A>, node: usize) -> usize
     last
 }
 
-// The node directly behind which a comment comes.
+// The node directly after which a comment is inserted.
 fn comment_follows<A: Allocator>(tree: &Tree<A>, node: usize, text: &str) -> usize
     requires { node < length tree.now.nodes }
     ensures { result ≡ comment_follows tree.now.nodes node text.now }
@@ -72,7 +72,7 @@ fn ends_line_at<A: Allocator>(tree: &Tree<A>, container: Option<usize>, next: Op
     }
 }
 
-/// Whether a line comment may come behind a child: nothing but whitespace stands behind it, or behind
+/// Whether a line comment may be inserted after a child: nothing but whitespace stands after it, or after
 /// its comma, on its line.
 pub fn may_end_line<A: Allocator>(tree: &Tree<A>, node: usize) -> bool
     requires in_tree { node < length tree.now.nodes }
@@ -97,7 +97,7 @@ fn push_spaced<A: Allocator + Copy>(
     push_comment(alloc, tree, row, text)
 }
 
-// Puts a space and a comment directly behind a child.
+// Puts a space and a comment directly after a child.
 fn come_spaced<A: Allocator + Copy>(
     alloc: A,
     tree: &mut Tree<A>,
@@ -116,10 +116,10 @@ fn come_spaced<A: Allocator + Copy>(
     Ok(())
 }
 
-/// Puts a comment behind a child, on its line: behind its comma, if nothing but whitespace and comments
-/// stands between, and behind one space.
+/// Puts a comment after a child, on its line: after its comma, if nothing but whitespace and comments
+/// stands between, and after one space.
 ///
-/// A line comment comes behind whitespace that stands there, at the end of the line: where
+/// A line comment is inserted after whitespace that stands there, at the end of the line: where
 /// [`may_end_line`] says so. Where the child is detached no node changes.
 ///
 /// All memory is asked for before any child changes, and an error leaves the document, and every node

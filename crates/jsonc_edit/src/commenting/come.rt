@@ -12,7 +12,7 @@ use crate::multiline::push_leaf;
 use jsonc_tree::{CstNewlineKind, Kind, Tree};
 use std::alloc::{AllocError, Allocator};
 
-// Makes whitespace and puts it behind a row that is being planned.
+// Makes whitespace and puts it after a row that is being planned.
 pub(super) fn push_blank<A: Allocator + Copy>(
     alloc: A,
     tree: &mut Tree<A>,
@@ -75,7 +75,7 @@ pub(super) fn come_before<A: Allocator>(
     tree.insert_between(container, before, Some(node), row);
 }
 
-// Puts them directly behind it.
+// Puts them directly after it.
 pub(super) fn come_behind<A: Allocator>(
     tree: &mut Tree<A>,
     container: usize,

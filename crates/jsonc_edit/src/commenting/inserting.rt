@@ -1,4 +1,4 @@
-//! Comments that are put above an entry or behind it, or refused.
+//! Comments that are put above an entry or after it, or refused.
 
 ghost use Rattle.std.specs.Prelude.{◌≡◌, ◌<◌, IfErr, OnErr, OnOk, length};
 ghost use Rattle.jsonc_text.specs.Options.{Options};
@@ -76,7 +76,7 @@ fn put<A: Allocator + Copy>(
     }
 }
 
-/// Puts a comment above an entry, on a line of its own, or behind it on its line.
+/// Puts a comment above an entry, on a line of its own, or after it on its line.
 ///
 /// The text is one whole comment, from `//` without a line's end or from `/*` to the first `*/`. Of a
 /// sound document whose options allow comments the text is a document again, of the same value, and of

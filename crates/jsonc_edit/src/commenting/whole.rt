@@ -53,7 +53,7 @@ fn block_kind(text: &str) -> Option<CommentKind>
 
 /// What a text begins and ends with that is one comment, or none where it is anything else.
 ///
-/// A comment that begins with `//` holds no LF and no CR, and the first `*/` behind a `/*` ends the text.
+/// A comment that begins with `//` holds no LF and no CR, and the first `*/` after a `/*` ends the text.
 pub fn comment_kind(text: &str) -> Option<CommentKind>
     ensures some { IfSome result (λ kind. IsWhole kind (chars text.now)) }
     ensures line { IfSome result (λ kind. is_line kind ≡ is_line_comment (Content.comment text.now)) }

@@ -12,8 +12,8 @@ ghost use Rattle.jsonc_edit.specs.multiline.Worked.{at_front, inside, one_level_
 ghost use Rattle.jsonc_edit.specs.multiline.Worked.{commented_array, object_nodes, open_array, spaced_array};
 
 /// Where an array or object at a path of a sound document is put on several lines, its row stays if a
-/// line ended in it. Any other row reflows: ends of lines come, with an indent or none, and whitespace
-/// beside them leaves. All else in it stays, and nothing outside of it changes.
+/// line ended in it. Any other row reflows: ends of lines are inserted, with an indent or none, and
+/// whitespace beside them is removed. All else in it stays, and nothing outside of it changes.
 pub fn containers_are_spread_out()
     ensures { (o : Options) (old new : List Node) (path : List ℕ) (c : ℕ) → SpreadsAt o old new path c }
 {}
@@ -47,7 +47,7 @@ pub fn worked_rows()
 {}
 
 /// Worked documents: `{"a":1, "b":[2]}` takes two spaces a level, and each property a line; comments stay
-/// in their parts, and nothing comes behind a trailing comma; `[1` lacks a bracket.
+/// in their parts, and nothing stands after a trailing comma; `[1` lacks a bracket.
 pub fn worked_documents()
     ensures lines { lines_for object_nodes 1 ≡ at_front }
     ensures object { text_inside at_front object_nodes 1 ≡ codes "\n  \"a\":1,\n  \"b\":[2]\n" }

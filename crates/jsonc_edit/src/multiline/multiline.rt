@@ -16,7 +16,7 @@ use std::alloc::Allocator;
 
 /// Puts an array or object on several lines, where no line ends among its children yet.
 ///
-/// Each part of what stands between the brackets, through its comma, comes on a line of its own, one
+/// Each part of what stands between the brackets, through its comma, is put on a line of its own, one
 /// level deeper, without the whitespace around it, and the last bracket on one too. All memory is asked
 /// for before the row changes, and an error leaves the document, and every node that was there, as it
 /// was.

@@ -22,7 +22,7 @@ fn is_empty(text: &str) -> bool
     text.len() == 0
 }
 
-// Makes a leaf and puts it behind a row that is being planned.
+// Makes a leaf and puts it after a row that is being planned.
 pub(crate) fn push_leaf<A: Allocator + Copy>(
     tree: &mut Tree<A>,
     row: &mut Vec<usize, A>,
@@ -73,8 +73,8 @@ fn push_last_line<A: Allocator + Copy>(
     push_leaf(tree, row, Kind::Whitespace(indent))
 }
 
-// Puts a child behind a row that is being planned, on a new line where a part begins with it, and
-// answers whether one begins behind it.
+// Puts a child after a row that is being planned, on a new line where a part begins with it, and
+// answers whether one begins after it.
 fn push_child<A: Allocator + Copy>(
     alloc: A,
     tree: &mut Tree<A>,
@@ -117,7 +117,7 @@ fn blanks_from<A: Allocator>(tree: &Tree<A>, row: &[usize]) -> usize
 }
 
 /// The row of an array or object on several lines: what stands between its brackets, by the numbers of
-/// the nodes. The leaves that come are made, and have no parent yet.
+/// the nodes. The leaves that are inserted are made, and have no parent yet.
 pub fn plan_lines<A: Allocator + Copy>(
     alloc: A,
     tree: &mut Tree<A>,

@@ -26,7 +26,7 @@ fn begins_line<A: Allocator>(tree: &Tree<A>, container: usize, node: usize) -> b
     }
 }
 
-// The newline behind a node, with nothing but whitespace between.
+// The newline after a node, with nothing but whitespace between.
 fn line_behind<A: Allocator>(tree: &Tree<A>, node: usize) -> Option<usize>
     requires { node < length tree.now.nodes }
     ensures line { result ≡ line_behind tree.now.nodes node }
@@ -45,7 +45,7 @@ fn line_behind<A: Allocator>(tree: &Tree<A>, node: usize) -> Option<usize>
     None
 }
 
-// The last that leaves with a comment with which its line begins.
+// The last that is removed with a comment with which its line begins.
 fn last_cleared<A: Allocator>(tree: &Tree<A>, comment: usize) -> usize
     requires { comment < length tree.now.nodes }
     ensures { result ≡ last_cleared tree.now.nodes comment }

@@ -1,4 +1,4 @@
-//! What leaves with an element.
+//! What is removed with an element.
 
 ghost use Rattle.std.specs.Prelude.{◌≡◌, ◌<◌, length};
 ghost use Rattle.jsonc_tree.specs.Siblings.{siblings_after};
@@ -31,7 +31,7 @@ pub(crate) fn first_gone<A: Allocator>(tree: &Tree<A>, node: usize) -> usize
     first
 }
 
-// Whether whitespace has something directly behind it that is no trivia.
+// Whether whitespace has something directly after it that is no trivia.
 fn indents_other<A: Allocator>(tree: &Tree<A>, blank: usize) -> bool
     requires { blank < length tree.now.nodes }
     ensures { result ≡ begins_other tree.now.nodes (siblings_after tree.now.nodes blank) }
@@ -71,7 +71,7 @@ fn line_end<A: Allocator>(tree: &Tree<A>, node: usize) -> usize
     last
 }
 
-// Whether a line ends behind a node, past whitespace and comments.
+// Whether a line ends after a node, past whitespace and comments.
 fn ends_line<A: Allocator>(tree: &Tree<A>, node: usize) -> bool
     requires { node < length tree.now.nodes }
     ensures { result ≡ ends_line_at tree.now.nodes node }
@@ -82,7 +82,7 @@ fn ends_line<A: Allocator>(tree: &Tree<A>, node: usize) -> bool
     }
 }
 
-// The comma behind a node, with nothing but trivia between.
+// The comma after a node, with nothing but trivia between.
 fn comma_behind<A: Allocator>(tree: &Tree<A>, node: usize) -> Option<usize>
     requires { node < length tree.now.nodes }
     ensures comma { result ≡ trailing_comma_at tree.now.nodes node }
@@ -100,7 +100,7 @@ fn comma_before<A: Allocator>(tree: &Tree<A>, node: usize) -> Option<usize>
     previous_siblings(tree, node).find(|sibling| is_comma(tree, *sibling))
 }
 
-// The last that leaves with a node that has this comma behind it, or none.
+// The last that is removed with a node that has this comma after it, or none.
 fn last_past<A: Allocator>(tree: &Tree<A>, node: usize, comma: Option<usize>) -> usize
     requires node { node < length tree.now.nodes }
     requires comma { IsThere tree.now.nodes comma }
@@ -116,7 +116,7 @@ fn last_past<A: Allocator>(tree: &Tree<A>, node: usize, comma: Option<usize>) ->
     line_end(tree, comma)
 }
 
-// The last that leaves with a node.
+// The last that is removed with a node.
 pub(crate) fn last_gone<A: Allocator>(tree: &Tree<A>, node: usize) -> usize
     requires { node < length tree.now.nodes }
     ensures last { result ≡ last_gone tree.now.nodes node }
@@ -125,7 +125,7 @@ pub(crate) fn last_gone<A: Allocator>(tree: &Tree<A>, node: usize) -> usize
     last_past(tree, node, comma_behind(tree, node))
 }
 
-// The comma that leaves from before a node, where none stands behind it.
+// The comma that is removed from before a node, where none stands after it.
 pub(crate) fn comma_gone<A: Allocator>(tree: &Tree<A>, node: usize) -> Option<usize>
     requires { node < length tree.now.nodes }
     ensures comma { result ≡ comma_gone tree.now.nodes node }

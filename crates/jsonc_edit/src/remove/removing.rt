@@ -24,7 +24,7 @@ use jsonc_layout::nodes::{children_from, is_blank};
 use jsonc_tree::{Kind, Tree};
 use std::alloc::Allocator;
 
-// The comma that leaves from before an element of a container.
+// The comma that is removed from before an element of a container.
 fn comma_in<A: Allocator>(tree: &Tree<A>, container: usize, node: usize) -> Option<usize>
     requires container { container < length tree.now.nodes }
     requires node { node < length tree.now.nodes }
@@ -45,7 +45,7 @@ fn is_next<A: Allocator>(tree: &Tree<A>, comma: usize, from: usize) -> bool
     seen_before(tree, from) == Some(comma)
 }
 
-// Before which node a space is due where a comma leaves, and behind it the siblings from a node on.
+// Before which node a space is due where a comma is removed, and after it the siblings from a node on.
 fn space_needed_at_comma<A: Allocator>(
     tree: &Tree<A>,
     from: usize,
@@ -80,7 +80,7 @@ fn space_needed_at_stretch<A: Allocator>(
     }
 }
 
-// Before which node a space is due behind what leaves a container: what leaves a property leaves none.
+// Before which node a space is due after what is removed from a container; none is due in a property.
 fn space_needed_after_gap<A: Allocator>(
     tree: &Tree<A>,
     container: usize,
@@ -207,11 +207,11 @@ pub(crate) fn close_up<A: Allocator>(tree: &mut Tree<A>, container: usize)
 /// Takes an element out of its array or object, the root's value out of the root, or a name or value out
 /// of its property.
 ///
-/// Whitespace and comments directly before it leave with it, back to a newline or another sibling; so
-/// does the comma behind it with what stands between, and the rest of the line where nothing else
-/// stands on it; where no comma stands behind it, the nearest one before it leaves. Blanks that are left
-/// alone leave too. Where two literals without quotes would come to stand directly beside each other, a
-/// space comes between them, but not in the place of a name or value; its memory alone may be wanted, and
+/// Whitespace and comments directly before it go with it, back to a newline or another sibling; so
+/// does the comma after it with what stands between, and the rest of the line where nothing else
+/// stands on it; where no comma stands after it, the nearest one before it goes. Blanks that are left
+/// alone go too. Where two literals without quotes would come to stand directly beside each other, a
+/// space is inserted between them, but not in the place of a name or value; its memory alone may be wanted, and
 /// an error leaves the document, and every node that was there, as it was. A node without a parent
 /// stays as it is.
 pub fn remove<A: Allocator + Copy>(

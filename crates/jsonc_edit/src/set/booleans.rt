@@ -38,7 +38,7 @@ fn has_hex_mark(text: &str, place: usize) -> bool
     has_x(text, place + 1)
 }
 
-// The place behind the sign of a text, or its start.
+// The place after the sign of a text, or its start.
 fn behind_sign(text: &str) -> usize
     ensures boundary { IsCharBoundary text.now result }
     ensures hex { is_hexadecimal (chars text.now) ≡ begins_hex (rest text.now result) }
@@ -52,7 +52,7 @@ fn behind_sign(text: &str) -> usize
     0
 }
 
-// Whether a text begins with `0x` or `0X`, behind its sign if it has one.
+// Whether a text begins with `0x` or `0X`, after its sign if it has one.
 fn is_hexadecimal(text: &str) -> bool
     ensures { result ≡ is_hexadecimal (chars text.now) }
 {
@@ -98,8 +98,8 @@ fn space_needed_for<A: Allocator>(tree: &Tree<A>, leaf: usize, value: bool) -> O
 
 /// Lets a truth value become this one, in its place.
 ///
-/// Where `false` would come to stand directly behind a hexadecimal number, whose digits would read on
-/// into it, a space comes between them: `[0x1true]` is `[0x1 false]` then. Its memory alone may be
+/// Where `false` would come to stand directly after a hexadecimal number, whose digits would read on
+/// into it, a space is inserted between them: `[0x1true]` is `[0x1 false]` then. Its memory alone may be
 /// wanted, and an error leaves the document, and every node that was there, as it was.
 pub fn set_boolean<A: Allocator + Copy>(
     alloc: A,

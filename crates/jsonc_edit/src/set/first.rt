@@ -1,4 +1,4 @@
-//! A first value that comes into the root's row.
+//! A first value that is put into the root's row.
 
 ghost use Rattle.std.specs.Prelude.{◌≡◌, ◌++◌, ◌∷◌, IfErr, IfOk, OnErr, OnOk, length, reverse, take, ℕ};
 ghost use Rattle.jsonc_tree.specs.Building.{Keeps};
@@ -19,14 +19,14 @@ use jsonc_layout::nodes::{is_comment, is_newline};
 use jsonc_tree::{CstNewlineKind, Kind, Tree};
 use std::alloc::{AllocError, Allocator};
 
-// A gap of the root's row, by what stands before it and behind it.
+// A gap of the root's row, by what stands before it and after it.
 #[derive(Clone, Copy)]
 struct Gap {
     before: Option<usize>,
     behind: Option<usize>,
 }
 
-// The gap that a first value comes into.
+// The gap that a first value is put into.
 fn first_gap<A: Allocator>(tree: &Tree<A>) -> Gap
     ensures gap { IsGap tree.now.nodes 0 (first_place tree.now.nodes) result.before result.behind }
     ensures in_tree { IsThere tree.now.nodes result.behind }
@@ -90,7 +90,7 @@ fn make_line_end<A: Allocator>(
     Ok(Some(leaf))
 }
 
-// Puts a value into the root's row, with the newlines that there are before and behind it.
+// Puts a value into the root's row, with the newlines that there are before and after it.
 fn put_first<A: Allocator>(
     tree: &mut Tree<A>,
     gap: Gap,

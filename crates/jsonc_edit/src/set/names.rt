@@ -31,8 +31,8 @@ fn add_name<A: Allocator + Copy>(
 /// Gives a property another name, and answers the number of the name's new node.
 ///
 /// The old name is replaced by the new one between quotes, as [`jsonc_layout::from_input`] writes
-/// names, and is detached then. All else stays, and no space comes: `{a:1b:2}` with `c` for `b` is
-/// `{a:1"c":2}`. Where the property has no name, or no colon behind it, the answer is `MissingName`. On
+/// names, and is detached then. All else stays, and no space is inserted: `{a:1b:2}` with `c` for `b` is
+/// `{a:1"c":2}`. Where the property has no name, or no colon after it, the answer is `MissingName`. On
 /// an error no node changes.
 pub fn rename_property<A: Allocator + Copy>(
     alloc: A,

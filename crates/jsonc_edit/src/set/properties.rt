@@ -48,7 +48,7 @@ fn due_after<A: Allocator>(
 /// of the new one.
 ///
 /// The document tells how, as for [`crate::replace`]. Where the value is a literal without quotes
-/// that would come to stand directly before another, a space comes between them. The old property is
+/// that would come to stand directly before another, a space is inserted between them. The old property is
 /// detached then. Where it has no parent the answer is None, and no node changes. An error leaves
 /// the document, and every node that was there, as it was.
 pub fn replace_property<A: Allocator + Copy>(

@@ -43,9 +43,9 @@ pub(crate) fn replace_child<A: Allocator + Copy>(
 /// Sets the document's value, and answers the number of its node.
 ///
 /// Where a value stands, it is replaced by the new one, as by [`replace`]. Where none does, the new value
-/// is laid out as the document tells and comes before the last of the root's children, if that is a
-/// newline, and else behind them all. Where a comment stands directly before that place, a newline comes
-/// between them, and where nothing stands behind it, a newline comes behind the value.
+/// is laid out as the document tells and is put before the last of the root's children, if that is a
+/// newline, and else after them all. Where a comment stands directly before that place, a newline is put
+/// between them, and where nothing stands after it, a newline is put after the value.
 ///
 /// An error leaves the document, and every node that was there, as it was.
 pub fn set_root<A: Allocator + Copy>(

@@ -53,7 +53,7 @@ fn put_last<A: Allocator + Copy>(
 ///
 /// Where a value stands, it is replaced by the new one, as by [`crate::replace`]. Where none does,
 /// which is so only after edits of single leaves, the new value is laid out as the document tells and
-/// comes behind all that the property holds, with a space where two literals without quotes would meet.
+/// is put after all that the property holds, with a space where two literals without quotes would meet.
 /// All memory is asked for before the document changes.
 ///
 /// An error leaves the document, and every node that was there, as it was.
@@ -85,7 +85,7 @@ pub fn set_property_value<A: Allocator + Copy>(
 }
 
 /// The value of a property, if it has a shape. Where it is another, or there is none, an empty one is
-/// set, as by [`set_property_value`]; where the property has no name, or no colon behind it, the
+/// set, as by [`set_property_value`]; where the property has no name, or no colon after it, the
 /// answer is `MissingName`, and nothing changes.
 pub fn property_value_or_set<A: Allocator + Copy>(
     alloc: A,

@@ -1,4 +1,4 @@
-//! Properties that come into objects.
+//! Properties that are inserted into objects.
 
 ghost use Rattle.std.specs.Prelude.{◌≡◌, ◌<◌, IfErr, IfOk, OnErr, OnOk, List, chars, false, length, true};
 ghost use Rattle.std.specs.List.{list_any};

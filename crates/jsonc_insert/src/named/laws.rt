@@ -15,8 +15,8 @@ pub fn names_are_those_of_values()
 {}
 
 /// Where the value of the first property of a name in an object at a path of a sound document is to be an
-/// array or object, the text is a document again, in which that property alone has changed, or has come
-/// last; the document is sound; and nothing is refused but for allocation failure.
+/// array or object, the text is a document again, in which that property alone has changed, or has been
+/// inserted last; the document is sound; and nothing is refused but for allocation failure.
 pub fn named_values_are_written()
     ensures written { (o : Options) (old new : List Node) (path : List ℕ) (c : ℕ) (name : List ℕ) (shape : Shape)
         (how : Over) (answer : Option ℕ) → WritesNamed o old new path c name shape how answer }

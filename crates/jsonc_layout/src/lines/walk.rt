@@ -14,7 +14,7 @@ pub(crate) struct Reached {
     pub(crate) depth: usize,
 }
 
-// The node that comes after all below a node.
+// The node after all below a node.
 fn next_past<A: Allocator>(tree: &Tree<A>, top: usize, from: Reached) -> Option<Reached>
     requires come { HasCome tree.now.nodes top from }
     ensures next { following tree.now.nodes top from.node ≡ rest_at tree.now.nodes top (node_of result) }
@@ -40,7 +40,7 @@ fn next_past<A: Allocator>(tree: &Tree<A>, top: usize, from: Reached) -> Option<
     None
 }
 
-// The node that comes after a node and is less deep.
+// Of the nodes after one, the first that is less deep than it.
 pub(crate) fn next_higher<A: Allocator>(
     tree: &Tree<A>,
     top: usize,
@@ -64,7 +64,7 @@ pub(crate) fn next_higher<A: Allocator>(
     next_past(tree, top, above)
 }
 
-// The node that comes after a node and is less deep than a bound.
+// Of the nodes after one, the first that is less deep than a bound.
 pub(crate) fn next_within<A: Allocator>(
     tree: &Tree<A>,
     top: usize,

@@ -30,7 +30,7 @@ pub fn name_of<A: Allocator>(tree: &Tree<A>, property: usize) -> Option<usize>
     children_from(tree, property, 0).find(|child| is_name(tree, *child))
 }
 
-// What stands behind the name of a property, or nothing where it has none.
+// What stands after the name of a property, or nothing where it has none.
 fn behind_name<A: Allocator>(tree: &Tree<A>, property: usize) -> Children<'_, A>
     requires { property < length tree.now.nodes }
     ensures children { result ≡ behind_name tree.now.nodes property }
@@ -41,7 +41,7 @@ fn behind_name<A: Allocator>(tree: &Tree<A>, property: usize) -> Children<'_, A>
     children
 }
 
-/// Whether a property has no name, or none with a colon behind it.
+/// Whether a property has no name, or none with a colon after it.
 pub fn lacks_name<A: Allocator>(tree: &Tree<A>, property: usize) -> bool
     requires { property < length tree.now.nodes }
     ensures lacks { result ≡ lacks_name_at tree.now.nodes property }
@@ -49,7 +49,7 @@ pub fn lacks_name<A: Allocator>(tree: &Tree<A>, property: usize) -> bool
     !behind_name(tree, property).any(|child| is_colon(tree, child))
 }
 
-// What stands behind the first colon behind the name of a property, or nothing where there is none.
+// What stands after the first colon after the name of a property, or nothing where there is none.
 fn behind_colon<A: Allocator>(tree: &Tree<A>, property: usize) -> Children<'_, A>
     requires { property < length tree.now.nodes }
     ensures children { result ≡ behind_colon tree.now.nodes property }
@@ -60,7 +60,7 @@ fn behind_colon<A: Allocator>(tree: &Tree<A>, property: usize) -> Children<'_, A
     children
 }
 
-// The first element behind a colon behind the name of a property.
+// The first element after a colon after the name of a property.
 fn after_colon<A: Allocator>(tree: &Tree<A>, node: usize) -> Option<usize>
     requires { node < length tree.now.nodes }
     ensures element { result ≡ value_by property tree.now.nodes node }
@@ -69,8 +69,8 @@ fn after_colon<A: Allocator>(tree: &Tree<A>, node: usize) -> Option<usize>
     first_element(tree, behind_colon(tree, node))
 }
 
-/// The value of the root, which is its first element, or of a property: the first element behind a
-/// colon behind its name. None where there is none, and of any other node.
+/// The value of the root, which is its first element, or of a property: the first element after a
+/// colon after its name. None where there is none, and of any other node.
 pub fn value_of<A: Allocator>(tree: &Tree<A>, node: usize) -> Option<usize>
     requires { node < length tree.now.nodes }
     ensures value { result ≡ value_at tree.now.nodes node }

@@ -37,9 +37,9 @@ pub fn runs_join()
     ensures { (d e f : Document) → RunsJoin d e f }
 {}
 
-/// A comment that came above or behind the entry at a path of a sound document whose options allow
-/// comments did so in its text: all before and behind it stays, the document says the same, and of its
-/// literals and comments this one alone has come. A line comment comes behind an entry where its line
+/// A comment that was inserted above or after the entry at a path of a sound document whose options allow
+/// comments is inserted in its text: all before and after it stays, the document says the same, and of its
+/// literals and comments this one alone is new. A line comment is inserted after an entry where its line
 /// ends.
 pub fn comments_come_in_texts()
     ensures above { (o : Options) (old new : List Node) (text : List ℕ) → AboveInText o old new text }
