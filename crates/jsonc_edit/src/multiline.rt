@@ -23,4 +23,3 @@ pub use crate::remove::has_brackets;
 pub use lines::{Lines, lines_for};
 pub use multiline::ensure_multiline;
 pub use plan::plan_lines;
-pub(crate) use plan::push_leaf;

@@ -21,7 +21,7 @@ use Rattle.jsonc_edit.proofs.NodesKept.{over_no_old}
 use Rattle.jsonc_edit.proofs.Splices.{spliced_in}
 use Rattle.jsonc_layout.specs.from_input.Layout.{Layout}
 use Rattle.jsonc_insert.specs.Inserted.{NodesMade}
-use Rattle.jsonc_insert.specs.Made.{IsFresh}
+use Rattle.jsonc_layout.specs.Building.{IsFresh}
 use Rattle.jsonc_insert.specs.declared.plan.Plan.{Plan}
 use Rattle.jsonc_insert.proofs.NoDuplicates.{all_parts, once_right}
 

@@ -14,7 +14,8 @@ use Rattle.jsonc_tree.proofs.RowSteps.{row_grows, RowBecomes, RowBecomes-splice,
 use Rattle.jsonc_tree.proofs.Splicing.{out_from}
 use Rattle.jsonc_edit.proofs.NodesKept.{over_no_old, place_kept}
 use Rattle.jsonc_insert.specs.Inserted.{put_by, with_comma, BecomesRow}
-use Rattle.jsonc_insert.specs.Made.{comma_at, IsFresh}
+use Rattle.jsonc_layout.specs.Building.{IsFresh}
+use Rattle.jsonc_insert.specs.Made.{comma_at}
 use Rattle.jsonc_insert.specs.Neighbours.{place_behind, AreReady, IsBeside}
 use Rattle.jsonc_insert.specs.Trimmed.{with_at}
 use Rattle.jsonc_insert.specs.declared.neighbours.Neighbours.{Neighbours}

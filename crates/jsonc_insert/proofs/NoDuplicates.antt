@@ -1,37 +1,11 @@
 -- Lists in which no number stands twice.
-use Rattle.std.proofs.Common.{◌≡◌, ◌<◌, ◌≤◌, ◌+◌, ◌-◌, inl, inr, ℕ, List, ◌++◌, All, length, take, drop, slice_index, refl, sym, subst, ◌∙◌, arith, length-append, length-drop}
+use Rattle.std.proofs.Common.{◌≡◌, ◌<◌, ◌≤◌, ◌+◌, ◌-◌, inl, inr, ℕ, List, ◌++◌, All, length, take, drop, slice_index, sym, subst, ◌∙◌, arith, length-append, length-drop}
 use Rattle.std.proofs.lemmas.Bool.{cases_lt}
-use Rattle.std.proofs.lemmas.List.{get_or-append-add, get_or-append_right, get_or-drop, get_or-take, get_or_append_left, length-take}
+use Rattle.std.proofs.lemmas.List.{get_or-append-add, get_or-drop, get_or-take, length-take}
 use Rattle.std.proofs.lemmas.List.Elements.{All-append, All-drop, All-from_get_or, All-take}
 use Rattle.jsonc_tree.specs.Changes.{EachOnce}
+use Rattle.jsonc_layout.proofs.lemmas.Building.{left_at, once_append, right_at, right_in, Apart}
 use Rattle.jsonc_insert.specs.Trimmed.{with_at}
-
--- no number stands in both
-abbrev pub Apart : List ℕ → List ℕ → Type 0
-Apart xs ys = (a b : ℕ) → a < length xs → b < length ys → slice_index xs a ≡ slice_index ys b → ⊥
-
-module _ (xs ys : List ℕ) where
-  left_at : (k : ℕ) → k < length xs → slice_index (xs ++ ys) k ≡ slice_index xs k
-  left_at k h = get_or_append_left xs ys 0 k h
-
-  right_at : (k : ℕ) → length xs ≤ k → slice_index (xs ++ ys) k ≡ slice_index ys (k - length xs)
-  right_at k h = get_or-append_right xs ys (length xs) k 0 refl h
-
-  right_in : (k : ℕ) → length xs ≤ k → k < length (xs ++ ys) → k - length xs < length ys
-  right_in k h l = omega (arith, h, l, length-append xs ys)
-
-  pub once_append : EachOnce xs → EachOnce ys → Apart xs ys → EachOnce (xs ++ ys)
-  once_append left right apart a b ha hb e =
-      elim (cases_lt a (length xs)) [
-        | inl la ↦ (elim (cases_lt b (length xs)) [
-          | inl lb ↦ left a b la lb (sym (left_at a la) ∙ e ∙ left_at b lb)
-          | inr rb ↦ absurd (apart a (b - length xs) la (right_in b rb hb) (sym (left_at a la) ∙ e ∙ right_at b rb))
-        ])
-        | inr ra ↦ (elim (cases_lt b (length xs)) [
-          | inl lb ↦ absurd (apart b (a - length xs) lb (right_in a ra ha) (sym (left_at b lb) ∙ sym e ∙ right_at a ra))
-          | inr rb ↦ (let same : a - length xs ≡ b - length xs = right (a - length xs) (b - length xs) (right_in a ra ha) (right_in b rb hb) (sym (right_at a ra) ∙ e ∙ right_at b rb) in omega (arith, ra, rb, same))
-        ])
-      ]
 
 module _ (xs : List ℕ) (k : ℕ) where
   take_in : (a : ℕ) → a < length (take k xs) → (a < k) × (a < length xs)

@@ -15,7 +15,8 @@ use Rattle.jsonc_edit.proofs.NodesKept.{filter_same}
 use Rattle.jsonc_layout.specs.from_input.Laid.{laid}
 use Rattle.jsonc_layout.specs.from_input.Layout.{Layout}
 use Rattle.jsonc_insert.specs.Inserted.{laid_entry, leaves_before, plan_of, put_by, with_comma, RowMade}
-use Rattle.jsonc_insert.specs.Made.{comma_at, comma_leaf, gap_leaves, IsFresh}
+use Rattle.jsonc_layout.specs.Building.{IsFresh}
+use Rattle.jsonc_insert.specs.Made.{comma_at, comma_leaf, gap_leaves}
 use Rattle.jsonc_insert.specs.Planned.{elements, has_brackets}
 use Rattle.jsonc_insert.specs.Settings.{layout_inside, on_several_lines, outer_indent}
 use Rattle.jsonc_insert.specs.Trimmed.{trimmed, with_at}

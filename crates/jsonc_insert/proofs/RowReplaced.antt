@@ -10,9 +10,9 @@ use Rattle.jsonc_tree.proofs.Order.{not_over_parent, parent_there}
 use Rattle.jsonc_tree.proofs.Splicing.{in_at}
 use Rattle.jsonc_edit.specs.Put.{Extends}
 use Rattle.jsonc_edit.proofs.NodesKept.{over_no_old}
-use Rattle.jsonc_edit.proofs.lemmas.set.FirstValueMade.{still_kept}
+use Rattle.jsonc_layout.proofs.lemmas.Building.{still_kept}
 use Rattle.jsonc_insert.specs.Inserted.{plan_of, put_by, with_comma, RowMade}
-use Rattle.jsonc_insert.specs.Made.{AreFresh, IsFresh}
+use Rattle.jsonc_layout.specs.Building.{AreFresh, IsFresh}
 use Rattle.jsonc_insert.specs.Planned.{has_brackets}
 use Rattle.jsonc_insert.specs.Trimmed.{trimmed, with_at}
 use Rattle.jsonc_insert.specs.declared.plan.Plan.{Plan}

@@ -13,7 +13,8 @@ use Rattle.jsonc_layout.specs.from_input.Laid.{laid, laid_property}
 use Rattle.jsonc_layout.specs.from_input.Layout.{Layout}
 use Rattle.jsonc_insert.specs.Trimmed.{trimmed, with_at}
 use Rattle.jsonc_insert.specs.Planned.{has_brackets, planned}
-use Rattle.jsonc_insert.specs.Made.{AreFresh, comma_at, comma_leaf, gap_leaves}
+use Rattle.jsonc_layout.specs.Building.{AreFresh}
+use Rattle.jsonc_insert.specs.Made.{comma_at, comma_leaf, gap_leaves}
 use Rattle.jsonc_insert.specs.Settings.{layout_inside, on_several_lines, outer_indent}
 use Rattle.jsonc_insert.specs.declared.plan.Plan.{Plan}
 

@@ -5,7 +5,8 @@ use Rattle.jsonc_tree.specs.Tree.{Node, content_at, parent_at, place_at, IsTree}
 use Rattle.jsonc_edit.specs.Put.{Extends}
 use Rattle.jsonc_layout.specs.from_input.Layout.{Layout}
 use Rattle.jsonc_insert.specs.Inserted.{plan_of, NodesMade, NodesMadeFor}
-use Rattle.jsonc_insert.specs.Made.{comma_at, AreFresh}
+use Rattle.jsonc_layout.specs.Building.{AreFresh}
+use Rattle.jsonc_insert.specs.Made.{comma_at}
 use Rattle.jsonc_insert.specs.declared.neighbours.Neighbours.{Neighbours}
 use Rattle.jsonc_insert.specs.declared.plan.Plan.{Plan}
 

@@ -1,6 +1,6 @@
 //! Elements that are inserted into arrays.
 
-ghost use Rattle.std.specs.Prelude.{◌≡◌, ◌<◌, ◌∷◌, ◌++◌, IfErr, IfOk, IsTrue, OnErr, OnOk, None, Option, chars, List, false, length, option_map, string_bytes, true, ℕ};
+ghost use Rattle.std.specs.Prelude.{◌≡◌, ◌<◌, IfErr, IfOk, IsTrue, OnErr, OnOk, None, Option, chars, List, false, length, option_map, string_bytes, true, ℕ};
 ghost use Rattle.jsonc_tree.specs.Building.{Keeps};
 ghost use Rattle.jsonc_tree.specs.Content.{Content};
 ghost use Rattle.jsonc_tree.specs.OrderedTree.{ordered_tree};
@@ -26,22 +26,6 @@ use jsonc_layout::from_input::Layout;
 use jsonc_layout::input::CstInputValue;
 use jsonc_tree::{CstNewlineKind, Tree};
 use std::alloc::{AllocError, Allocator};
-
-// The new element with what is inserted directly before and after it.
-fn written<A: Allocator>(
-    alloc: A,
-    before: &[usize],
-    element: usize,
-    behind: &[usize],
-) -> Result<Vec<usize, A>, AllocError>
-    ensures { IfOk result (λ v. v.items ≡ before.now ++ element ∷ behind.now) }
-{
-    let mut row = Vec::new(alloc);
-    row.extend_from_slice(before)?;
-    row.push(element)?;
-    row.extend_from_slice(behind)?;
-    Ok(row)
-}
 
 // What the document tells of what is inserted between two neighbours.
 #[derive(Drop)]
@@ -163,8 +147,7 @@ fn insert_beside<A: Allocator + Copy>(
     let outer = told.outer.as_str();
     let plan = told.beside.plan;
     let made = make(alloc, tree, name, value, &told.layout, outer, plan)?;
-    let written = written(alloc, &made.before, made.element, &made.behind)?;
-    put_beside(tree, container, told.beside, &made.comma, &written);
+    put_beside(tree, container, told.beside, &made.comma, &made.written);
     Ok(made.element)
 }
 

@@ -1,7 +1,7 @@
 -- The row of an array or object on several lines.
 use Rattle.std.specs.Prelude.{ℕ, ◌-◌, ◌++◌, List, [], ◌∷◌, length, map, take, drop, slice_range, if◌then◌else◌}
 use Rattle.std.specs.List.{flat_map, onto_first, prefix_len, suffix_len}
-use Rattle.jsonc_tree.specs.Content.{newline, whitespace}
+use Rattle.jsonc_tree.specs.Content.{Content, newline, whitespace}
 use Rattle.jsonc_tree.specs.Tree.{Node, children_at}
 use Rattle.jsonc_tree.specs.declared.node.CstNewlineKind.{CstNewlineKind}
 use Rattle.jsonc_layout.specs.nodes.Kinds.{is_comma_at, is_whitespace_at}
@@ -41,12 +41,15 @@ on_line lines [] = []
 on_line lines (n ∷ part) = new_line lines ++ map stays (n ∷ part)
 
 -- the last line begins so: its indent is no leaf where it is empty
-abbrev pub indent_if_any : List ℕ → List Slot
+abbrev pub indent_if_any : List ℕ → List Content
 indent_if_any [] = []
-indent_if_any (c ∷ rest) = comes (whitespace (c ∷ rest)) ∷ []
+indent_if_any (c ∷ rest) = whitespace (c ∷ rest) ∷ []
+
+abbrev pub last_leaves : Lines → List Content
+last_leaves lines = newline lines.newline ∷ indent_if_any lines.outer
 
 abbrev pub last_line : Lines → List Slot
-last_line lines = comes (newline lines.newline) ∷ indent_if_any lines.outer
+last_line lines = map comes (last_leaves lines)
 
 -- what stands between the brackets, each part on a line of its own and without the whitespace around it, and then the line of the last bracket
 abbrev pub on_lines : Lines → List Node → List ℕ → List Slot

@@ -20,12 +20,7 @@ pub record Planned (old now : List Node) (c place : ℕ) (slots : List Slot) (ro
   pub from : (k : ℕ) → k < length row → IsFrom old now c place (slice_index row k)
   pub once : EachOnce row
 
--- whatever was planned is planned still, with these leaves behind it
-abbrev pub Gains : List Node → List ℕ → List Node → List ℕ → List Slot → Type 0
-Gains now row later next more =
-    (old : List Node) (c place : ℕ) (slots : List Slot) → IsTree old → Planned old now c place slots row → Planned old later c place (slots ++ more) next
-
--- or with a further child of c behind these
+-- whatever was planned is planned still, with these leaves behind it and a further child of c behind these
 abbrev pub GainsChild : List Node → List ℕ → List Node → List ℕ → ℕ → List Slot → Type 0
 GainsChild now row later next n more =
     (old : List Node) (c place : ℕ) (slots : List Slot) → IsTree old → Planned old now c place slots row → parent_at old n ≡ Some c → 0 < place_at old n

@@ -1,6 +1,6 @@
 //! A comment that is inserted above an entry.
 
-ghost use Rattle.std.specs.Prelude.{◌≡◌, ◌<◌, IfOk, None, OnErr, OnOk, Some, length, map};
+ghost use Rattle.std.specs.Prelude.{◌≡◌, ◌<◌, IfOk, None, OnErr, OnOk, Some, length};
 ghost use Rattle.std.specs.Prelude.{option_and_then, option_map, string_bytes};
 ghost use Rattle.jsonc_tree.specs.Building.{Keeps};
 ghost use Rattle.jsonc_tree.specs.OrderedTree.{ordered_tree};
@@ -9,17 +9,16 @@ ghost use Rattle.jsonc_tree.specs.Tree.{parent_at, place_at};
 ghost use Rattle.jsonc_layout.specs.lines.Breadth.{newline_kind_at};
 ghost use Rattle.jsonc_layout.specs.lines.Kinds.{blank_at, blank_of};
 ghost use Rattle.jsonc_edit.specs.Put.{Extends};
-ghost use Rattle.jsonc_edit.specs.commenting.Above.{begins_own_line, indent_in, own_indent, own_line, new_line};
+ghost use Rattle.jsonc_edit.specs.commenting.Above.{begins_own_line, indent_in, own_indent, own_line};
 ghost use Rattle.jsonc_edit.specs.commenting.Above.{seam_at, without_end, ComesAbove, ComesAtSeam};
 ghost use Rattle.jsonc_edit.specs.commenting.Come.{LeavesCome};
-ghost use Rattle.jsonc_edit.specs.multiline.Plans.{Gains};
-ghost use Rattle.jsonc_edit.specs.multiline.Slots.{comes};
 
-use super::come::{come_before, push_comment, push_line};
+use super::come::come_before;
 use crate::multiline::lines_for;
+use jsonc_layout::building::Row;
 use jsonc_layout::lines::{indent_text, is_array_or_object, newline_kind_at};
 use jsonc_layout::nodes::{is_whitespace, line_before, previous_sibling};
-use jsonc_tree::{CstNewlineKind, Kind, Tree};
+use jsonc_tree::{Kind, Tree};
 use std::alloc::{AllocError, Allocator};
 
 // Whether nothing but whitespace stands before a node on its line.
@@ -114,43 +113,6 @@ fn seam_at<'a, A: Allocator>(tree: &Tree<A>, node: usize, indent: &'a str) -> Se
     }
 }
 
-// Plans a comment, the end of its line, and an indent.
-fn push_own_line<A: Allocator + Copy>(
-    alloc: A,
-    tree: &mut Tree<A>,
-    row: &mut Vec<usize, A>,
-    kind: CstNewlineKind,
-    text: &str,
-    indent: &str,
-) -> Result<(), AllocError>
-    ensures gains { OnOk result
-        (Gains tree.old.nodes row.old.items tree.new.nodes row.new.items
-        (map comes (own_line kind text.now indent.now))) }
-    ensures prepared { Extends tree.old.nodes tree.new.nodes }
-{
-    push_comment(alloc, tree, row, text)?;
-    push_line(alloc, tree, row, kind, indent)
-}
-
-// Plans the end of a line and an indent before these.
-fn push_new_line<A: Allocator + Copy>(
-    alloc: A,
-    tree: &mut Tree<A>,
-    row: &mut Vec<usize, A>,
-    kind: CstNewlineKind,
-    text: &str,
-    indent: &str,
-    rest: &str,
-) -> Result<(), AllocError>
-    ensures gains { OnOk result
-        (Gains tree.old.nodes row.old.items tree.new.nodes row.new.items
-        (map comes (new_line kind indent.now (own_line kind text.now rest.now)))) }
-    ensures prepared { Extends tree.old.nodes tree.new.nodes }
-{
-    push_line(alloc, tree, row, kind, indent)?;
-    push_own_line(alloc, tree, row, kind, text, rest)
-}
-
 // Puts a comment and the end of its line in the place of a child with which its line begins, and an
 // indent before that.
 fn come_on_line<A: Allocator + Copy>(
@@ -168,9 +130,10 @@ fn come_on_line<A: Allocator + Copy>(
 {
     let kind = newline_kind_at(tree, container);
     let indent = own_indent(alloc, tree, node)?;
-    let mut row = Vec::new(alloc);
-    push_own_line(alloc, tree, &mut row, kind, text, indent.as_str())?;
-    come_before(tree, container, node, &row);
+    let mut row = Row::new(alloc);
+    row.push_comment(tree, text)?;
+    row.push_line(tree, kind, indent.as_str())?;
+    come_before(tree, container, node, &row.nodes);
     Ok(())
 }
 
@@ -191,18 +154,13 @@ fn come_between<A: Allocator + Copy>(
 {
     let kind = newline_kind_at(tree, container);
     let indent = indent_in(alloc, tree, container)?;
-    let seam = seam_at(tree, node, indent.as_str());
-    let mut row = Vec::new(alloc);
-    push_new_line(
-        alloc,
-        tree,
-        &mut row,
-        kind,
-        text,
-        indent.as_str(),
-        seam.indent,
-    )?;
-    come_before(tree, container, seam.node, &row);
+    let inner = indent.as_str();
+    let seam = seam_at(tree, node, inner);
+    let mut row = Row::new(alloc);
+    row.push_line(tree, kind, inner)?;
+    row.push_comment(tree, text)?;
+    row.push_line(tree, kind, seam.indent)?;
+    come_before(tree, container, seam.node, &row.nodes);
     Ok(())
 }
 

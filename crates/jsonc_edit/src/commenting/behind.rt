@@ -1,6 +1,6 @@
 //! A comment that is inserted after an entry.
 
-ghost use Rattle.std.specs.Prelude.{◌≡◌, ◌<◌, ◌+◌, None, OnErr, OnOk, Some, length, map};
+ghost use Rattle.std.specs.Prelude.{◌≡◌, ◌<◌, ◌+◌, None, OnErr, OnOk, Some, length};
 ghost use Rattle.jsonc_tree.specs.Building.{Keeps};
 ghost use Rattle.jsonc_tree.specs.OrderedTree.{ordered_tree};
 ghost use Rattle.jsonc_tree.specs.Tree.{parent_at, place_at};
@@ -11,11 +11,10 @@ ghost use Rattle.jsonc_edit.specs.Put.{Extends};
 ghost use Rattle.jsonc_edit.specs.commenting.Behind.{comment_follows, end_of_entry, ends_line_at, last_blank};
 ghost use Rattle.jsonc_edit.specs.commenting.Behind.{may_end_line, spaced, ComesBehind};
 ghost use Rattle.jsonc_edit.specs.commenting.Come.{LeavesCome};
-ghost use Rattle.jsonc_edit.specs.multiline.Plans.{Gains};
-ghost use Rattle.jsonc_edit.specs.multiline.Slots.{comes};
 
-use super::come::{come_behind, push_blank, push_comment};
+use super::come::come_behind;
 use crate::comments::begins_line;
+use jsonc_layout::building::Row;
 use jsonc_layout::nodes::{after_inline_trivia, is_comma, is_newline, is_whitespace, next_sibling};
 use jsonc_tree::Tree;
 use std::alloc::{AllocError, Allocator};
@@ -82,21 +81,6 @@ pub fn may_end_line<A: Allocator>(tree: &Tree<A>, node: usize) -> bool
     ends_line_at(tree, tree.parent(node), next_sibling(tree, last))
 }
 
-// Plans a space and a comment.
-fn push_spaced<A: Allocator + Copy>(
-    alloc: A,
-    tree: &mut Tree<A>,
-    row: &mut Vec<usize, A>,
-    text: &str,
-) -> Result<(), AllocError>
-    ensures gains { OnOk result
-        (Gains tree.old.nodes row.old.items tree.new.nodes row.new.items (map comes (spaced text.now))) }
-    ensures prepared { Extends tree.old.nodes tree.new.nodes }
-{
-    push_blank(alloc, tree, row, " ")?;
-    push_comment(alloc, tree, row, text)
-}
-
 // Puts a space and a comment directly after a child.
 fn come_spaced<A: Allocator + Copy>(
     alloc: A,
@@ -110,9 +94,10 @@ fn come_spaced<A: Allocator + Copy>(
         (LeavesCome tree.old.nodes tree.new.nodes container (place_at tree.old.nodes before + 1) (spaced text.now)) }
     ensures prepared { OnErr result (Extends tree.old.nodes tree.new.nodes) }
 {
-    let mut row = Vec::new(alloc);
-    push_spaced(alloc, tree, &mut row, text)?;
-    come_behind(tree, container, before, &row);
+    let mut row = Row::new(alloc);
+    row.push_blank(tree, " ")?;
+    row.push_comment(tree, text)?;
+    come_behind(tree, container, before, &row.nodes);
     Ok(())
 }
 

@@ -1,16 +1,15 @@
 //! A container's row, planned before it changes.
 
-ghost use Rattle.std.specs.Prelude.{◌≡◌, ◌==◌, ◌<◌, ◌≤◌, ◌∷◌, [], IfOk, IsTrue, OnOk, false, length};
-ghost use Rattle.jsonc_tree.specs.Content.{is_container};
-ghost use Rattle.jsonc_tree.specs.Stored.{content_of};
+ghost use Rattle.std.specs.Prelude.{◌≡◌, ◌==◌, ◌<◌, ◌≤◌, IfOk, IsTrue, OnOk, length};
+ghost use Rattle.jsonc_layout.specs.Building.{Gains};
 ghost use Rattle.jsonc_edit.specs.Put.{Extends};
 ghost use Rattle.jsonc_edit.specs.remove.Removed.{has_brackets};
-ghost use Rattle.jsonc_edit.specs.multiline.Lines.{last_line, new_line, without_back};
+ghost use Rattle.jsonc_edit.specs.multiline.Lines.{last_leaves, without_back};
 ghost use Rattle.jsonc_edit.specs.multiline.LineViews.{lines_of};
-ghost use Rattle.jsonc_edit.specs.multiline.Plans.{begins_after, Gains, PlansLines, PutsChild};
-ghost use Rattle.jsonc_edit.specs.multiline.Slots.{comes};
+ghost use Rattle.jsonc_edit.specs.multiline.Plans.{begins_after, PlansLines, PutsChild};
 
 use crate::multiline::lines::Lines;
+use jsonc_layout::building::Row;
 use jsonc_layout::nodes::{children, is_comma, is_whitespace};
 use jsonc_tree::{Kind, Tree};
 use std::alloc::{AllocError, Allocator};
@@ -22,70 +21,35 @@ fn is_empty(text: &str) -> bool
     text.len() == 0
 }
 
-// Makes a leaf and puts it after a row that is being planned.
-pub(crate) fn push_leaf<A: Allocator + Copy>(
-    tree: &mut Tree<A>,
-    row: &mut Vec<usize, A>,
-    kind: Kind<A>,
-) -> Result<(), AllocError>
-    requires { is_container (content_of kind) ≡ false }
-    ensures gains { OnOk result
-        (Gains tree.old.nodes row.old.items tree.new.nodes row.new.items (comes (content_of kind) ∷ [])) }
-    ensures prepared { Extends tree.old.nodes tree.new.nodes }
-{
-    let leaf = tree.add(kind)?;
-    row.push(leaf)?;
-    Ok(())
-}
-
-// Ends a line of a row that is being planned, and begins the next one with its indent.
-fn push_line<A: Allocator + Copy>(
-    alloc: A,
-    tree: &mut Tree<A>,
-    row: &mut Vec<usize, A>,
-    lines: &Lines<A>,
-) -> Result<(), AllocError>
-    ensures gains { OnOk result
-        (Gains tree.old.nodes row.old.items tree.new.nodes row.new.items (new_line (lines_of lines.now))) }
-    ensures prepared { Extends tree.old.nodes tree.new.nodes }
-{
-    push_leaf(tree, row, Kind::Newline(lines.newline))?;
-    let indent = String::from_str(alloc, lines.inner.as_str())?;
-    push_leaf(tree, row, Kind::Whitespace(indent))
-}
-
 // Ends the last line between the brackets, and indents the bracket.
 fn push_last_line<A: Allocator + Copy>(
-    alloc: A,
     tree: &mut Tree<A>,
-    row: &mut Vec<usize, A>,
+    row: &mut Row<A>,
     lines: &Lines<A>,
 ) -> Result<(), AllocError>
     ensures gains { OnOk result
-        (Gains tree.old.nodes row.old.items tree.new.nodes row.new.items (last_line (lines_of lines.now))) }
+        (Gains tree.old.nodes row.old.nodes.items tree.new.nodes row.new.nodes.items (last_leaves (lines_of lines.now))) }
     ensures prepared { Extends tree.old.nodes tree.new.nodes }
 {
-    push_leaf(tree, row, Kind::Newline(lines.newline))?;
+    row.push(tree, Kind::Newline(lines.newline))?;
     if is_empty(lines.outer.as_str()) {
         return Ok(());
     }
-    let indent = String::from_str(alloc, lines.outer.as_str())?;
-    push_leaf(tree, row, Kind::Whitespace(indent))
+    row.push_blank(tree, lines.outer.as_str())
 }
 
 // Puts a child after a row that is being planned, on a new line where a part begins with it, and
 // answers whether one begins after it.
 fn push_child<A: Allocator + Copy>(
-    alloc: A,
     tree: &mut Tree<A>,
-    row: &mut Vec<usize, A>,
+    row: &mut Row<A>,
     lines: &Lines<A>,
     begins: bool,
     child: usize,
 ) -> Result<bool, AllocError>
     requires { child < length tree.old.nodes }
     ensures gains { OnOk result
-        (PutsChild tree.old.nodes row.old.items tree.new.nodes row.new.items (lines_of lines.now) begins child) }
+        (PutsChild tree.old.nodes row.old.nodes.items tree.new.nodes row.new.nodes.items (lines_of lines.now) begins child) }
     ensures begins { IfOk result (λ b. b ≡ begins_after tree.old.nodes begins child) }
     ensures prepared { Extends tree.old.nodes tree.new.nodes }
 {
@@ -95,9 +59,9 @@ fn push_child<A: Allocator + Copy>(
         if blank {
             return Ok(true);
         }
-        push_line(alloc, tree, row, lines)?;
+        row.push_line(tree, lines.newline, lines.inner.as_str())?;
     }
-    row.push(child)?;
+    row.nodes.push(child)?;
     Ok(comma)
 }
 
@@ -133,11 +97,11 @@ pub fn plan_lines<A: Allocator + Copy>(
     let children = children(alloc, tree, container)?;
     let inside = &children[1..children.len() - 1];
     let end = blanks_from(tree, inside);
-    let mut row = Vec::new(alloc);
+    let mut row = Row::new(alloc);
     let mut begins = true;
     for child in &inside[..end] {
-        begins = push_child(alloc, tree, &mut row, lines, begins, *child)?;
+        begins = push_child(tree, &mut row, lines, begins, *child)?;
     }
-    push_last_line(alloc, tree, &mut row, lines)?;
-    Ok(row)
+    push_last_line(tree, &mut row, lines)?;
+    Ok(row.nodes)
 }

@@ -6,7 +6,7 @@ use Rattle.jsonc_tree.specs.Building.{Keeps}
 use Rattle.jsonc_tree.specs.Tree.{Node, children_at, is_container_at, parent_at, IsTree}
 use Rattle.jsonc_edit.specs.Put.{Extends}
 use Rattle.jsonc_insert.specs.Inserted.{BecomesRow}
-use Rattle.jsonc_insert.specs.Made.{IsFresh}
+use Rattle.jsonc_layout.specs.Building.{IsFresh}
 use Rattle.jsonc_insert.specs.Planned.{has_brackets}
 use Rattle.jsonc_insert.specs.Trimmed.{trimmed}
 use Rattle.jsonc_edit.specs.multiline.Slots.{Slot, stays, AreFilled}

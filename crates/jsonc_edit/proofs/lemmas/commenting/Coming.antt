@@ -3,7 +3,7 @@ use Rattle.std.proofs.Common.{◌≡◌, ◌∙◌, ℕ, ◌<◌, List, [], ◌�
 use Rattle.std.proofs.lemmas.List.{take-append-drop}
 use Rattle.std.proofs.lemmas.List.Elements.{All-drop, All-take}
 use Rattle.jsonc_tree.specs.Content.{Content, root}
-use Rattle.jsonc_tree.specs.OrderedTree.{OrderedTree, none, more, followed_by, leaves, ordered_tree, own_leaf, Replaced, Shows}
+use Rattle.jsonc_tree.specs.OrderedTree.{OrderedTree, none, more, followed_by, leaves, ordered_tree, own_leaf, Replaced, Shows, shows_none, shows_more}
 use Rattle.jsonc_tree.specs.Tree.{Node, content_at, children_at, IsOver, IsTree}
 use Rattle.jsonc_tree.proofs.OrderedTrees.{leaves-followed_by, Shows-unique}
 use Rattle.jsonc_tree.proofs.Rows.{Shows-append}
@@ -15,27 +15,21 @@ use Rattle.jsonc_sound.proofs.TriviaLeaves.{front_leaves}
 use Rattle.jsonc_edit.specs.Changes.{row_below, top_at}
 use Rattle.jsonc_edit.specs.Seams.{StandsBetween}
 use Rattle.jsonc_edit.specs.commenting.Come.{LeavesCome}
-use Rattle.jsonc_edit.specs.multiline.Slots.{comes, row_in}
 use Rattle.jsonc_edit.proofs.ChangesUpward.{document_is, Shows-row_below}
 use Rattle.jsonc_edit.proofs.LeafKinds.{trivia_leaf}
 use Rattle.jsonc_edit.proofs.PutRows.{replaced_put, shown_put, stands_put, RowPut}
 use Rattle.jsonc_edit.proofs.SeamsAround.{leaves_around}
 use Rattle.jsonc_edit.proofs.Standing.{shows_standing, standing}
-use Rattle.jsonc_edit.proofs.lemmas.multiline.FilledRows.{filled_shown, AllFit}
 use Rattle.jsonc_edit.proofs.lemmas.remove.PartedTrivia.{around}
 
 pub then_joined : (contents : List Content) (back : OrderedTree) → followed_by (leaves_then contents none) back ≡ leaves_then contents back
 then_joined [] back = refl
 then_joined (content ∷ rest) back = ap (more content none) (then_joined rest back)
 
--- what leaves that are made stand for
-come_row : (old : List Node) (contents : List Content) → row_in old (map comes contents) ≡ leaves_then contents none
-come_row old [] = refl
-come_row old (content ∷ rest) = ap (more content none) (come_row old rest)
-
-come_fit : (old : List Node) (contents : List Content) → AreTrivia contents → AllFit old (map comes contents)
-come_fit old [] t = tt
-come_fit old (content ∷ rest) t = (trivia_leaf content t.0, come_fit old rest t.1)
+-- what trivia stands for
+trivia_shown : (ns : List Node) → IsTree ns → (row : List ℕ) → AreTrivia (map (content_at ns) row) → Shows ns row (leaves_then (map (content_at ns) row) none)
+trivia_shown ns tree [] t = shows_none
+trivia_shown ns tree (n ∷ row) t = shows_more (subst (λ (l : List ℕ). Shows ns l none) (sym (tree.leaf n (trivia_leaf (content_at ns n) t.0))) shows_none) (trivia_shown ns tree row t.1)
 
 -- the trees that stand before a place of a row, and those behind it
 pub record Cut (ns : List Node) (xs : List ℕ) (place : ℕ) : Type 0 where
@@ -76,7 +70,7 @@ module _ (old new : List Node) (tree : IsTree old) (c place : ℕ) (contents : L
 
   row_now : row_below new c ≡ now
   row_now =
-      shown_put old new c put cut.ahead (subst (Shows r.ready r.row) (come_row old contents) (filled_shown old r.ready tree r.prepared r.filled (come_fit old contents trivia))) cut.behind
+      shown_put old new c put cut.ahead (subst (λ l. Shows r.ready r.row (leaves_then l none)) r.made.are (trivia_shown r.ready r.prepared.tree r.row (subst AreTrivia (sym r.made.are) trivia))) cut.behind
       ∙ ap (followed_by cut.front) (then_joined contents cut.back)
 
   pub come_replaced : IsOver old 0 c → Replaced was now (ordered_tree old 0) (ordered_tree new 0)

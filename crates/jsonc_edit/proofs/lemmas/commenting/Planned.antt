@@ -1,6 +1,5 @@
 -- Leaves alone have been planned: they may come into a row, and where.
-use Rattle.std.proofs.Common.{◌≡◌, ◌∙◌, ℕ, ◌+◌, ◌<◌, ◌≤◌, Bool, true, false, cond, inl, inr, List, [], length, map, slice_index, Option, Some, None, option_and_then, Result, Ok, Err, OnErr, OnOk, refl, sym, ap, subst, arith}
-use Rattle.jsonc_tree.specs.Building.{Keeps}
+use Rattle.std.proofs.Common.{◌≡◌, ◌∙◌, ℕ, ◌+◌, ◌<◌, Bool, true, false, cond, inl, List, [], length, slice_index, Option, Some, None, option_and_then, Result, Ok, Err, OnErr, OnOk, refl, sym, ap, subst, arith}
 use Rattle.jsonc_tree.specs.Changes.{CanJoin, Splices}
 use Rattle.jsonc_tree.specs.Content.{Content}
 use Rattle.jsonc_tree.specs.OrderedTree.{ordered_tree}
@@ -8,58 +7,47 @@ use Rattle.jsonc_tree.proofs.Order.{parent_there}
 use Rattle.jsonc_tree.specs.Siblings.{first, siblings_after, siblings_before}
 use Rattle.jsonc_tree.specs.Tree.{Node, parent_at, place_at, IsTree}
 use Rattle.jsonc_tree.specs.declared.node.CstNewlineKind.{CstNewlineKind}
+use Rattle.jsonc_layout.specs.Building.{Gains, LeavesMade}
 use Rattle.jsonc_layout.specs.nodes.Kinds.{is_whitespace_at}
 use Rattle.jsonc_layout.specs.lines.Kinds.{blank_at}
+use Rattle.jsonc_layout.proofs.lemmas.Building.{made_from}
 use Rattle.jsonc_edit.specs.Put.{Extends}
 use Rattle.jsonc_edit.specs.commenting.Above.{begins_own_line, new_line, own_line, seam_at, seam_behind, seam_by, without_end, ComesAbove, ComesAboveBy}
 use Rattle.jsonc_edit.specs.commenting.Behind.{comment_follows, last_blank, last_blank_in, spaced, ComesBehind}
 use Rattle.jsonc_edit.specs.commenting.Come.{LeavesCome}
-use Rattle.jsonc_edit.specs.multiline.Plans.{IsFrom, Planned, Gains}
-use Rattle.jsonc_edit.specs.multiline.Slots.{comes}
 use Rattle.jsonc_edit.proofs.Elements.{Some_same}
 use Rattle.jsonc_edit.proofs.NodesKept.{over_no_old, place_kept, tree_stays}
 use Rattle.jsonc_edit.proofs.RowEnds.{before_is, previous_at}
-use Rattle.jsonc_edit.proofs.lemmas.multiline.Planning.{planned_none}
 use Rattle.jsonc_edit.proofs.lemmas.remove.SiblingSteps.{after_none, after_step}
 
-module _ (old now : List Node) (c : ℕ) (contents : List Content) (row : List ℕ) (tree : IsTree old) (there : c < length old) (gains : Gains old [] now row (map comes contents)) where
-  planned : Planned old now c 1 (map comes contents) row
-  planned = gains old c 1 [] tree (planned_none old c tree)
-
-  each_new : (n : ℕ) → IsFrom old now c 1 n → (length old ≤ n) × (n < length now) × (parent_at now n ≡ None)
-  each_new n (inr f) = f
-  each_new n (inl f) = absurd (omega (arith, f.1, f.2))
-
-  new_at : (k : ℕ) → k < length row → (length old ≤ slice_index row k) × (slice_index row k < length now) × (parent_at now (slice_index row k) ≡ None)
-  new_at k h = each_new (slice_index row k) (planned.from k h)
-
+module _ (old now : List Node) (c : ℕ) (contents : List Content) (row : List ℕ) (tree : IsTree old) (there : c < length old) (made : LeavesMade old now contents row) where
   leaves_join : (place : ℕ) → CanJoin now c place place row
   leaves_join place = record {
-    in_tree = λ k h. (new_at k h).1;
-    not_root = λ k h e. omega (arith, (new_at k h).0, tree.first, e);
-    once = planned.once;
-    free = λ k h. inl (new_at k h).2;
-    not_over = λ k h. over_no_old old now tree planned.keeps (slice_index row k) c (new_at k h).0 there;
+    in_tree = λ k h. (made.fresh.each k h).in_tree;
+    not_root = λ k h e. omega (arith, (made.fresh.each k h).later, tree.first, e);
+    once = made.fresh.once;
+    free = λ k h. inl (made.fresh.each k h).alone;
+    not_over = λ k h. over_no_old old now tree made.keeps (slice_index row k) c (made.fresh.each k h).later there;
   }
 
   -- of a list that is lent
   pub may_join : (xs : List ℕ) → xs ≡ row → (place : ℕ) → CanJoin now c place place xs
   may_join xs e place = subst (λ (l : List ℕ). CanJoin now c place place l) (sym e) (leaves_join place)
 
-  pub leaves_come : (xs : List ℕ) → xs ≡ row → (place : ℕ) (new : List Node) → IsTree new → Splices now new c place place xs → LeavesCome old new c place contents
-  leaves_come xs e place new after put = record {
+  pub leaves_come : IsTree now → (xs : List ℕ) → xs ≡ row → (place : ℕ) (new : List Node) → IsTree new → Splices now new c place place xs → LeavesCome old new c place contents
+  leaves_come ready xs e place new after put = record {
     ready = now;
     row = row;
-    prepared = record { keeps = planned.keeps; tree = planned.tree };
-    filled = planned.filled;
+    prepared = record { keeps = made.keeps; tree = ready };
+    made = made;
     join = leaves_join place;
     put = subst (λ (l : List ℕ). Splices now new c place place l) e put;
     tree = after;
   }
 
--- leaves that were planned in this order are these
-pub planned_are : (old now : List Node) (xs row : List ℕ) (contents wanted : List Content) → xs ≡ [] → contents ≡ wanted → Gains old xs now row (map comes contents) → Gains old [] now row (map comes wanted)
-planned_are old now xs row contents wanted e f g = subst (λ cs. Gains old [] now row (map comes cs)) f (subst (λ (l : List ℕ). Gains old l now row (map comes contents)) e g)
+-- leaves that were made in this order are these
+pub leaves_are : (old now : List Node) (xs row : List ℕ) (contents wanted : List Content) → xs ≡ [] → contents ≡ wanted → Gains old xs now row contents → LeavesMade old now wanted row
+leaves_are old now xs row contents wanted e f g = subst (λ cs. LeavesMade old now cs row) f (made_from old now xs row contents e g)
 
 -- of equal parts they are equal
 pub own_line_same : (k l : CstNewlineKind) (text s t : List ℕ) → k ≡ l → s ≡ t → own_line k text s ≡ own_line l text t
@@ -69,21 +57,21 @@ pub new_line_same : (k l : CstNewlineKind) (text s t x y : List ℕ) → k ≡ l
 new_line_same k l text s t x y e f g = ap (λ z. new_line z s (own_line z text x)) e ∙ ap (λ z. new_line l z (own_line l text x)) f ∙ ap (λ z. new_line l t (own_line l text z)) g
 
 -- beside a child that is one still
-module _ (old now : List Node) (c : ℕ) (contents : List Content) (row : List ℕ) (tree : IsTree old) (keeps : Keeps (length old) old now) (gains : Gains old [] now row (map comes contents)) (n : ℕ) (said : parent_at old n ≡ Some c) where
+module _ (old now : List Node) (c : ℕ) (contents : List Content) (row : List ℕ) (tree : IsTree old) (made : LeavesMade old now contents row) (n : ℕ) (said : parent_at old n ≡ Some c) where
   pub still_child : parent_at now n ≡ Some c
-  still_child = keeps.parent n (parent_there old tree n c said).0 ∙ said
+  still_child = made.keeps.parent n (parent_there old tree n c said).0 ∙ said
 
   pub join_beside : (xs : List ℕ) → xs ≡ row → (place : ℕ) → CanJoin now c place place xs
-  join_beside xs e place = may_join old now c contents row tree (parent_there old tree n c said).1 gains xs e place
+  join_beside xs e place = may_join old now c contents row tree (parent_there old tree n c said).1 made xs e place
 
-  module _ (xs : List ℕ) (e : xs ≡ row) (new : List Node) (after : IsTree new) where
+  module _ (ready : IsTree now) (xs : List ℕ) (e : xs ≡ row) (new : List Node) (after : IsTree new) where
     pub come_before_child : Splices now new c (place_at now n) (place_at now n) xs → LeavesCome old new c (place_at old n) contents
     come_before_child put =
-        leaves_come old now c contents row tree (parent_there old tree n c said).1 gains xs e (place_at old n) new after (subst (λ k. Splices now new c k k xs) (place_kept old now tree keeps n c said) put)
+        leaves_come old now c contents row tree (parent_there old tree n c said).1 made ready xs e (place_at old n) new after (subst (λ k. Splices now new c k k xs) (place_kept old now tree made.keeps n c said) put)
 
     pub come_behind_child : Splices now new c (place_at now n + 1) (place_at now n + 1) xs → LeavesCome old new c (place_at old n + 1) contents
     come_behind_child put =
-        leaves_come old now c contents row tree (parent_there old tree n c said).1 gains xs e (place_at old n + 1) new after (subst (λ k. Splices now new c (k + 1) (k + 1) xs) (place_kept old now tree keeps n c said) put)
+        leaves_come old now c contents row tree (parent_there old tree n c said).1 made ready xs e (place_at old n + 1) new after (subst (λ k. Splices now new c (k + 1) (k + 1) xs) (place_kept old now tree made.keeps n c said) put)
 
 -- where new nodes alone were made the document stays
 pub document_stays : {E : Type 0} (old new : List Node) → IsTree old → (r : Result (Unit {0}) E) → OnErr r (Extends old new) → OnErr r (ordered_tree new 0 ≡ ordered_tree old 0)

@@ -1,5 +1,5 @@
 -- An array or object at a path of a sound document is put on several lines.
-use Rattle.std.proofs.Common.{◌≡◌, ◌∙◌, ℕ, ◌<◌, Bool, true, false, ◌||◌, inl, inr, List, [], ◌∷◌, ◌++◌, All, length, not, IsTrue, refl, sym, ap, subst}
+use Rattle.std.proofs.Common.{◌≡◌, ◌∙◌, ℕ, ◌<◌, Bool, true, false, ◌||◌, inl, inr, List, [], ◌∷◌, ◌++◌, All, length, map, not, IsTrue, refl, sym, ap, subst}
 use Rattle.std.specs.List.{flat_map, list_any}
 use Rattle.std.proofs.lemmas.Bool.{cases_Bool}
 use Rattle.std.proofs.lemmas.List.Folds.{list_any-append}
@@ -18,7 +18,7 @@ use Rattle.jsonc_edit.specs.multiline.Laws.{SpreadAt}
 use Rattle.jsonc_edit.specs.multiline.Lines.{Lines, between, indent_if_any, lines_for, on_line, on_lines, parts, without_back, without_front}
 use Rattle.jsonc_edit.specs.multiline.Multiline.{has_line_end, TakesRow, MadeMultiline}
 use Rattle.jsonc_edit.specs.multiline.Reflows.{has_newline, Reflows, SpreadsOut, reflows}
-use Rattle.jsonc_edit.specs.multiline.Slots.{Slot, row_in}
+use Rattle.jsonc_edit.specs.multiline.Slots.{Slot, comes, row_in}
 use Rattle.jsonc_edit.proofs.FittingIndents.{indents_fit, indent_joined}
 use Rattle.jsonc_edit.proofs.FittingNodes.{children_over, over_there}
 use Rattle.jsonc_edit.proofs.LayoutTold.{Each, top_told}
@@ -94,7 +94,7 @@ module _ (o : Options) (old new : List Node) (path : List ℕ) (c : ℕ) (tree :
     kind = kind;
     row = standing old b.inner;
     new = row_in old slots;
-    spreads = reflows (line_ends ∙ h) (row_newline old lines.newline (indent_if_any lines.outer) (flat_map (λ part. on_line lines (without_front old part)) (parts old (without_back old (between kids))))) row_now;
+    spreads = reflows (line_ends ∙ h) (row_newline old lines.newline (map comes (indent_if_any lines.outer)) (flat_map (λ part. on_line lines (without_front old part)) (parts old (without_back old (between kids))))) row_now;
     lines = λ e. row_on_lines old tree lines joined fits.0 (between kids) (ap (list_any (is_newline_at old)) (in_row old tree c there b) ∙ sym (standing_newline old b.inner) ∙ e);
     changed = row_taken old tree c there b new r slots_fit path at;
   }

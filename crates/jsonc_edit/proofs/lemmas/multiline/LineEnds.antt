@@ -1,5 +1,5 @@
 -- An array or object that was put on several lines has the end of a line among its children, and has its brackets where its document is sound.
-use Rattle.std.proofs.Common.{◌≡◌, ◌∙◌, ℕ, ◌-◌, Bool, true, ◌||◌, ◌&&◌, not, inl, inr, List, [], ◌∷◌, ◌++◌, length, take, drop, reverse, IsTrue, refl, sym, ap, subst}
+use Rattle.std.proofs.Common.{◌≡◌, ◌∙◌, ℕ, ◌-◌, Bool, true, ◌||◌, ◌&&◌, not, inl, inr, List, [], ◌∷◌, ◌++◌, length, map, take, drop, reverse, IsTrue, refl, sym, ap, subst}
 use Rattle.std.specs.List.{flat_map, list_any}
 use Rattle.std.proofs.lemmas.Bool.{cases_Bool}
 use Rattle.std.proofs.lemmas.List.{reverse-append}
@@ -41,7 +41,7 @@ module _ (old new : List Node) (c : ℕ) where
       let p : ℕ → Bool = is_newline_at new in
       let before : List ℕ = take 1 (children_at r.ready c) in
       let behind : List ℕ = drop (length (children_at old c) - 1) (children_at r.ready c) in
-      let inner : IsTrue (list_any p r.row) = ends_kept r.ready new r.put.content r.row ∙ filled_end old r.ready lines.newline (indent_if_any lines.outer) front r.filled in
+      let inner : IsTrue (list_any p r.row) = ends_kept r.ready new r.put.content r.row ∙ filled_end old r.ready lines.newline (map comes (indent_if_any lines.outer)) front r.filled in
       let rest : IsTrue (list_any p (r.row ++ behind)) = list_any-append p r.row behind ∙ or_left (list_any p r.row) (list_any p behind) inner in
       ap (list_any p) r.put.children ∙ list_any-append p before (r.row ++ behind) ∙ or_right (list_any p before) (list_any p (r.row ++ behind)) rest
 

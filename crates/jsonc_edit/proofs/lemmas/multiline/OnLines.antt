@@ -1,5 +1,5 @@
 -- A row on several lines is the row, in which ends of lines have come and whitespace has left.
-use Rattle.std.proofs.Common.{◌≡◌, ◌∙◌, ℕ, zero, suc, ◌+◌, ◌-◌, ◌<◌, Bool, true, false, ◌||◌, List, [], ◌∷◌, ◌++◌, All, length, take, drop, IsTrue, refl, sym, ap, subst, arith, length-drop, get_or-drop, if◌then◌else◌}
+use Rattle.std.proofs.Common.{◌≡◌, ◌∙◌, ℕ, zero, suc, ◌+◌, ◌-◌, ◌<◌, Bool, true, false, ◌||◌, List, [], ◌∷◌, ◌++◌, All, length, map, take, drop, IsTrue, refl, sym, ap, subst, arith, length-drop, get_or-drop, if◌then◌else◌}
 use Rattle.std.specs.List.{flat_map, list_any, suffix_len}
 use Rattle.std.proofs.lemmas.List.{take-append-drop}
 use Rattle.std.proofs.lemmas.List.Elements.{All-from_get_or, All-head, All-tail, All-take}
@@ -71,7 +71,7 @@ module _ (old : List Node) (tree : IsTree old) (lines : Lines) (inner : IsIndent
   end_reflows : Reflows none (Then [])
   end_reflows = by lines.outer outer
     where
-      by : (s : List ℕ) → IsIndent s → Reflows none (row_in old (comes (newline lines.newline) ∷ indent_if_any s))
+      by : (s : List ℕ) → IsIndent s → Reflows none (row_in old (comes (newline lines.newline) ∷ map comes (indent_if_any s)))
       by [] h = line_end ended
       by (c ∷ s) h = line h ended
 
@@ -117,7 +117,7 @@ module _ (old : List Node) (tree : IsTree old) (lines : Lines) (inner : IsIndent
   last_closes : (begins : Bool) → goes_on_lines (turn begins) (Then []) ≡ true
   last_closes begins = by begins lines.outer
     where
-      by : (begins : Bool) (s : List ℕ) → goes_on_lines (turn begins) (row_in old (comes (newline lines.newline) ∷ indent_if_any s)) ≡ true
+      by : (begins : Bool) (s : List ℕ) → goes_on_lines (turn begins) (row_in old (comes (newline lines.newline) ∷ map comes (indent_if_any s))) ≡ true
       by true [] = refl
       by false [] = refl
       by true (c ∷ s) = refl
@@ -163,7 +163,7 @@ module _ (lines : Lines) (ns : List Node) (P : ℕ → Type 0) (C : Content → 
   last_holds : AllHold P C (last_line lines)
   last_holds = by lines.outer outer
     where
-      by : (s : List ℕ) → C (whitespace s) → AllHold P C (comes (newline lines.newline) ∷ indent_if_any s)
+      by : (s : List ℕ) → C (whitespace s) → AllHold P C (comes (newline lines.newline) ∷ map comes (indent_if_any s))
       by [] w = (line, tt)
       by (c ∷ s) w = (line, (w, tt))
 

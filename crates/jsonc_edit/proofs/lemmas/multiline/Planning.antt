@@ -1,65 +1,35 @@
 -- A row is planned node by node.
-use Rattle.std.proofs.Common.{◌≡◌, ◌==◌, false, append-nil, Bool, true, ◌≢◌, ℕ, ◌+◌, ◌<◌, ◌≤◌, inl, inr, List, [], ◌∷◌, ◌++◌, length, slice_index, Some, None, Result, Ok, Err, OnOk, refl, sym, ap, subst, ◌∙◌, arith, length-append, append_assoc}
-use Rattle.std.proofs.lemmas.Bool.{cases_lt, ne_eqb}
-use Rattle.std.proofs.lemmas.List.{get_or_append_left}
-use Rattle.std.proofs.Math.Seq.{get_or-append_seam}
+use Rattle.std.proofs.Common.{◌≡◌, ◌==◌, false, append-nil, Bool, true, ◌≢◌, ℕ, suc, ◌+◌, ◌<◌, ◌≤◌, inl, inr, List, [], ◌∷◌, ◌++◌, length, map, slice_index, Some, refl, sym, ap, subst, ◌∙◌, arith, append_assoc}
+use Rattle.std.proofs.lemmas.Bool.{ne_eqb}
 use Rattle.jsonc_tree.specs.Building.{Keeps}
-use Rattle.jsonc_tree.specs.Changes.{Adds, EachOnce}
-use Rattle.jsonc_tree.specs.Content.{Content, whitespace}
+use Rattle.jsonc_tree.specs.Content.{Content, newline, whitespace}
 use Rattle.jsonc_tree.specs.Tree.{Node, content_at, parent_at, place_at, IsTree}
-use Rattle.jsonc_tree.proofs.Builder.{Keeps-same, Keeps-then, Keeps-fewer, Keeps-adds}
+use Rattle.jsonc_tree.proofs.Builder.{Keeps-same, Keeps-then, Keeps-fewer}
 use Rattle.jsonc_tree.proofs.Order.{parent_there}
+use Rattle.jsonc_layout.specs.Building.{Gains, IsFresh}
+use Rattle.jsonc_layout.proofs.lemmas.Building.{each_append, each_one, once_append}
 use Rattle.jsonc_edit.specs.multiline.Slots.{Slot, stays, comes, AreFilled, no_more, stayed, came}
 use Rattle.jsonc_edit.specs.multiline.Lines.{Lines, new_line, indent_if_any}
-use Rattle.jsonc_edit.specs.multiline.Plans.{IsFrom, Planned, Gains, GainsChild, child_slots}
+use Rattle.jsonc_edit.specs.multiline.Plans.{IsFrom, Planned, GainsChild, child_slots}
 
 module _ (old now : List Node) where
-  filled_more : (n : ℕ) (slots : List Slot) (row : List ℕ) → AreFilled old now slots row → AreFilled old now (slots ++ stays n ∷ []) (row ++ n ∷ [])
-  filled_more n _ _ no_more = stayed no_more
-  filled_more n _ _ (stayed {slots = slots} {row = row} rest) = stayed (filled_more n slots row rest)
-  filled_more n _ _ (came {slots = slots} {row = row} a b c d rest) = came a b c d (filled_more n slots row rest)
+  pub filled_append : (slots : List Slot) (row : List ℕ) (others : List Slot) (more : List ℕ) → AreFilled old now slots row → AreFilled old now others more → AreFilled old now (slots ++ others) (row ++ more)
+  filled_append _ _ others more no_more g = g
+  filled_append _ _ others more (stayed {slots = slots} {row = row} rest) g = stayed (filled_append slots row others more rest g)
+  filled_append _ _ others more (came {slots = slots} {row = row} a b c d rest) g = came a b c d (filled_append slots row others more rest g)
 
-  filled_new : (n : ℕ) (content : Content) → length old ≤ n → n < length now → content_at now n ≡ content → parent_at now n ≡ None → (slots : List Slot) (row : List ℕ) → AreFilled old now slots row → AreFilled old now (slots ++ comes content ∷ []) (row ++ n ∷ [])
-  filled_new n content a b c d _ _ no_more = came a b c d no_more
-  filled_new n content a b c d _ _ (stayed {slots = slots} {row = row} rest) = stayed (filled_new n content a b c d slots row rest)
-  filled_new n content a b c d _ _ (came {slots = slots} {row = row} e f g h rest) = came e f g h (filled_new n content a b c d slots row rest)
+  -- new leaves fill their places
+  filled_new : (leaves : List ℕ) → ((k : ℕ) → k < length leaves → IsFresh old now (slice_index leaves k)) → AreFilled old now (map comes (map (content_at now) leaves)) leaves
+  filled_new [] each = no_more
+  filled_new (n ∷ leaves) each =
+      let f = each 0 (omega arith) in
+      came f.later f.in_tree refl f.alone (filled_new leaves (λ k h. each (suc k) (omega (arith, h))))
 
   pub filled_later : (later : List Node) → Keeps (length now) now later → (slots : List Slot) (row : List ℕ) → AreFilled old now slots row → AreFilled old later slots row
   filled_later later keeps _ _ no_more = no_more
   filled_later later keeps _ _ (stayed {slots = slots} {row = row} rest) = stayed (filled_later later keeps slots row rest)
   filled_later later keeps _ _ (came {n = n} {slots = slots} {row = row} a b c d rest) =
       came a (omega (arith, b, keeps.len)) (keeps.content n b ∙ c) (keeps.parent n b ∙ d) (filled_later later keeps slots row rest)
-
--- a list with one more at its end
-module _ (row : List ℕ) (n : ℕ) where
-  last_at : slice_index (row ++ n ∷ []) (length row) ≡ n
-  last_at = get_or-append_seam row n [] 0
-
-  before_at : (k : ℕ) → k < length row → slice_index (row ++ n ∷ []) k ≡ slice_index row k
-  before_at k h = get_or_append_left row (n ∷ []) 0 k h
-
-  count : length (row ++ n ∷ []) ≡ length row + 1
-  count = length-append row (n ∷ [])
-
-  each_more : (P : ℕ → Type 0) → ((k : ℕ) → k < length row → P (slice_index row k)) → P n → (k : ℕ) → k < length (row ++ n ∷ []) → P (slice_index (row ++ n ∷ []) k)
-  each_more P all one k h =
-      elim (cases_lt k (length row)) [
-        | inl low ↦ subst P (sym (before_at k low)) (all k low)
-        | inr high ↦ (let e : length row ≡ k = omega (arith, high, h, count) in subst (λ j. P (slice_index (row ++ n ∷ []) j)) e (subst P (sym last_at) one))
-      ]
-
-  once_more : ((k : ℕ) → k < length row → slice_index row k ≢ n) → EachOnce row → EachOnce (row ++ n ∷ [])
-  once_more out once a b ha hb e =
-      elim (cases_lt a (length row)) [
-        | inl low ↦ (elim (cases_lt b (length row)) [
-          | inl also ↦ once a b low also (sym (before_at a low) ∙ e ∙ before_at b also)
-          | inr high ↦ (let f : b ≡ length row = omega (arith, high, hb, count) in absurd (out a low (sym (before_at a low) ∙ e ∙ ap (λ j. slice_index (row ++ n ∷ []) j) f ∙ last_at)))
-        ])
-        | inr high ↦ (elim (cases_lt b (length row)) [
-          | inl also ↦ (let f : a ≡ length row = omega (arith, high, ha, count) in absurd (out b also (sym (before_at b also) ∙ sym e ∙ ap (λ j. slice_index (row ++ n ∷ []) j) f ∙ last_at)))
-          | inr other ↦ omega (arith, high, other, ha, hb, count)
-        ])
-      ]
 
 -- what comes from before a place does from before a later one, and when more nodes are there
 from_later : (old now later : List Node) (c place next n : ℕ) → place ≤ next → Keeps (length now) now later → IsFrom old now c place n → IsFrom old later c next n
@@ -77,7 +47,7 @@ module _ (old now : List Node) (c place : ℕ) (slots : List Slot) (row : List �
     once = p.once;
   }
 
-  -- a child of c from this place on is not in the row
+  -- a child of c from this place on is not in the row, nor is a new node
   child_out : (n : ℕ) → n < length old → place ≤ place_at old n → (k : ℕ) → k < length row → slice_index row k ≢ n
   child_out n there h k l e = by (p.from k l)
     where
@@ -85,35 +55,37 @@ module _ (old now : List Node) (c place : ℕ) (slots : List Slot) (row : List �
       by (inl f) = omega (arith, f.2, h, ap (place_at old) e)
       by (inr f) = omega (arith, f.0, there, e)
 
+  row_there : IsTree old → (k : ℕ) → k < length row → slice_index row k < length now
+  row_there tree k l = by (p.from k l)
+    where
+      by : IsFrom old now c place (slice_index row k) → slice_index row k < length now
+      by (inl f) = omega (arith, (parent_there old tree (slice_index row k) c f.0).0, p.keeps.len)
+      by (inr f) = f.1
+
   pub planned_child : IsTree old → (n : ℕ) → parent_at old n ≡ Some c → 0 < place_at old n → place ≤ place_at old n → Planned old now c (place_at old n + 1) (slots ++ stays n ∷ []) (row ++ n ∷ [])
   planned_child tree n said low h = record {
     tree = p.tree;
     keeps = p.keeps;
-    filled = filled_more old now n slots row p.filled;
-    from = each_more row n (IsFrom old now c (place_at old n + 1)) (λ k l. from_later old now now c place (place_at old n + 1) (slice_index row k) (omega (arith, h)) (Keeps-same (length now) now) (p.from k l)) (inl (said, low, omega arith));
-    once = once_more row n (child_out n (parent_there old tree n c said).0 h) p.once;
+    filled = filled_append old now slots row (stays n ∷ []) (n ∷ []) p.filled (stayed no_more);
+    from = each_append row (n ∷ []) (IsFrom old now c (place_at old n + 1)) (λ k l. from_later old now now c place (place_at old n + 1) (slice_index row k) (omega (arith, h)) (Keeps-same (length now) now) (p.from k l)) (each_one (IsFrom old now c (place_at old n + 1)) n (inl (said, low, omega arith)));
+    once = once_append row (n ∷ []) p.once (λ a b ha hb e. omega (arith, ha, hb)) (λ a b ha hb e. child_out n (parent_there old tree n c said).0 h a ha (e ∙ each_one (λ m. m ≡ n) n refl b hb));
   }
 
-  -- a new node is not in the row
-  new_out : IsTree old → (k : ℕ) → k < length row → slice_index row k ≢ length now
-  new_out tree k l e = by (p.from k l)
+  -- leaves that are made
+  pub planned_leaves : IsTree old → (later : List Node) (next : List ℕ) (contents : List Content) → IsTree later → Gains now row later next contents → Planned old later c place (slots ++ map comes contents) next
+  planned_leaves first later next contents tree g = subst (Planned old later c place (slots ++ map comes contents)) (sym g.is) (record {
+    tree = tree;
+    keeps = q.keeps;
+    filled = filled_append old later slots row (map comes contents) g.leaves q.filled (subst (λ l. AreFilled old later (map comes l) g.leaves) g.made.are (filled_new old later g.leaves fresh));
+    from = each_append row g.leaves (IsFrom old later c place) q.from (λ k h. inr ((fresh k h).later, (fresh k h).in_tree, (fresh k h).alone));
+    once = once_append row g.leaves p.once g.made.fresh.once (λ a b ha hb e. omega (arith, row_there first a ha, (g.made.fresh.each b hb).later, e));
+  })
     where
-      by : IsFrom old now c place (slice_index row k) → ⊥
-      by (inl f) = omega (arith, (parent_there old tree (slice_index row k) c f.0).0, p.keeps.len, e)
-      by (inr f) = omega (arith, f.1, e)
+      q : Planned old later c place slots row
+      q = planned_later later place tree g.made.keeps (omega arith)
 
-  pub planned_leaf : IsTree old → (later : List Node) (content : Content) → IsTree later → Adds now later content → Planned old later c place (slots ++ comes content ∷ []) (row ++ length now ∷ [])
-  planned_leaf first later content tree added =
-      let keeps : Keeps (length now) now later = Keeps-adds now later content added in
-      let q = planned_later later place tree keeps (omega arith) in
-      let more : length now < length later = omega (arith, added.len) in
-      record {
-        tree = tree;
-        keeps = q.keeps;
-        filled = filled_new old later (length now) content p.keeps.len more added.last added.bare.0 slots row q.filled;
-        from = each_more row (length now) (IsFrom old later c place) q.from (inr (p.keeps.len, more, added.bare.0));
-        once = once_more row (length now) (new_out first) p.once;
-      }
+      fresh : (k : ℕ) → k < length g.leaves → IsFresh old later (slice_index g.leaves k)
+      fresh k h = let f = g.made.fresh.each k h in record { later = omega (arith, p.keeps.len, f.later); in_tree = f.in_tree; alone = f.alone }
 
 -- nothing has been planned yet
 pub planned_none : (old : List Node) (c : ℕ) → IsTree old → Planned old old c 1 [] []
@@ -125,22 +97,12 @@ planned_none old c tree = record {
   once = λ a b h. absurd (omega arith);
 }
 
--- leaves, and then more leaves
-pub gains_then : (a b d : List Node) (r s t : List ℕ) (first second : List Slot) → Gains a r b s first → Gains b s d t second → Gains a r d t (first ++ second)
-gains_then a b d r s t first second f g old c place slots tree p =
-    subst (λ l. Planned old d c place l t) (append_assoc slots first second) (g old c place (slots ++ first) tree (f old c place slots tree p))
-
--- the result of a call that gains leaves, where it is Ok
-pub gains_where : {E : Type 0} (a b d : List Node) (r s t : List ℕ) (first second whole : List Slot) (result : Result (Unit {0}) E) → first ++ second ≡ whole → Gains a r b s first → OnOk result (Gains b s d t second) → OnOk result (Gains a r d t whole)
-gains_where a b d r s t first second whole (Ok x) e f g = subst (Gains a r d t) e (gains_then a b d r s t first second f g)
-gains_where a b d r s t first second whole (Err x) e f g = tt
-
 -- the indent of the last bracket
 pub no_indent : (s : List ℕ) → (length s == 0) ≡ true → [] ≡ indent_if_any s
 no_indent [] e = refl
 no_indent (c ∷ rest) e = absurd (let wrong : false ≡ true = sym (ne_eqb (length (c ∷ rest)) 0 (λ f. omega (arith, f))) ∙ e in cc)
 
-pub one_indent : (s : List ℕ) → (length s == 0) ≡ false → comes (whitespace s) ∷ [] ≡ indent_if_any s
+pub one_indent : (s : List ℕ) → (length s == 0) ≡ false → whitespace s ∷ [] ≡ indent_if_any s
 one_indent [] e = absurd (let wrong : true ≡ false = e in cc)
 one_indent (c ∷ rest) e = refl
 
@@ -150,9 +112,10 @@ module _ (old now : List Node) (c place : ℕ) (slots : List Slot) (row : List �
   child_left = subst (λ l. Planned old now c (place_at old n + 1) l row) (sym (append-nil slots)) (planned_later old now c place slots row p now (place_at old n + 1) p.tree (Keeps-same (length now) now) (omega (arith, h)))
 
 -- on a new line
-pub child_on_line : (lines : Lines) (a b : List Node) (r s : List ℕ) (n : ℕ) → Gains a r b s (new_line lines) → GainsChild a r b (s ++ n ∷ []) n (new_line lines ++ stays n ∷ [])
-child_on_line lines a b r s n f old c place slots tree p said low h =
-    subst (λ l. Planned old b c (place_at old n + 1) l (s ++ n ∷ [])) (append_assoc slots (new_line lines) (stays n ∷ [])) (planned_child old b c place (slots ++ new_line lines) s (f old c place slots tree p) tree n said low h)
+pub child_on_line : (lines : Lines) (a b : List Node) (r s : List ℕ) (n : ℕ) → IsTree b → Gains a r b s (newline lines.newline ∷ whitespace lines.inner ∷ []) → GainsChild a r b (s ++ n ∷ []) n (new_line lines ++ stays n ∷ [])
+child_on_line lines a b r s n after g old c place slots tree p said low h =
+    subst (λ l. Planned old b c (place_at old n + 1) l (s ++ n ∷ [])) (append_assoc slots (new_line lines) (stays n ∷ []))
+    (planned_child old b c place (slots ++ new_line lines) s (planned_leaves old a c place slots r p tree b s (newline lines.newline ∷ whitespace lines.inner ∷ []) after g) tree n said low h)
 
 pub child_gained : (a : List Node) (r : List ℕ) (n : ℕ) → GainsChild a r a (r ++ n ∷ []) n (stays n ∷ [])
 child_gained a r n old c place slots tree p said low h = planned_child old a c place slots r p tree n said low h
@@ -172,8 +135,8 @@ left_slots lines true false n e f = cc
 left_slots lines false blank n e f = cc
 
 module _ (lines : Lines) (a : List Node) (r : List ℕ) (begins blank : Bool) (n : ℕ) where
-  pub line_gained : (b : List Node) (s : List ℕ) → begins ≡ true → blank ≡ false → Gains a r b s (new_line lines) → GainsChild a r b (s ++ n ∷ []) n (child_slots lines begins blank n)
-  line_gained b s e f g = subst (GainsChild a r b (s ++ n ∷ []) n) (line_slots lines begins blank n e f) (child_on_line lines a b r s n g)
+  pub line_gained : (b : List Node) (s : List ℕ) → begins ≡ true → blank ≡ false → IsTree b → Gains a r b s (newline lines.newline ∷ whitespace lines.inner ∷ []) → GainsChild a r b (s ++ n ∷ []) n (child_slots lines begins blank n)
+  line_gained b s e f tree g = subst (GainsChild a r b (s ++ n ∷ []) n) (line_slots lines begins blank n e f) (child_on_line lines a b r s n tree g)
 
   pub kept_gained : begins ≡ false → GainsChild a r a (r ++ n ∷ []) n (child_slots lines begins blank n)
   kept_gained e = subst (GainsChild a r a (r ++ n ∷ []) n) (kept_slots lines begins blank n e) (child_gained a r n)

@@ -8,15 +8,16 @@ use Rattle.jsonc_tree.specs.Tree.{Node, content_at, parent_at, children_at, plac
 use Rattle.jsonc_tree.proofs.Builder.{Keeps-same}
 use Rattle.jsonc_tree.proofs.Order.{not_over_parent, parent_there}
 use Rattle.jsonc_tree.proofs.Splicing.{in_at}
+use Rattle.jsonc_layout.specs.Building.{Gains}
 use Rattle.jsonc_layout.specs.nodes.Kinds.{is_whitespace, is_whitespace_at, is_comma_at, is_comma}
 use Rattle.jsonc_sound.proofs.RowParts.{first_and}
 use Rattle.jsonc_edit.proofs.NodesKept.{over_no_old}
 use Rattle.jsonc_edit.specs.remove.Removed.{has_brackets, has_two}
 use Rattle.jsonc_edit.specs.multiline.Slots.{Slot}
-use Rattle.jsonc_edit.specs.multiline.Lines.{Lines, between, last_line, lines_for, on_line, on_lines, parts, without_back, without_front}
+use Rattle.jsonc_edit.specs.multiline.Lines.{Lines, between, last_leaves, last_line, lines_for, on_line, on_lines, parts, without_back, without_front}
 use Rattle.jsonc_edit.specs.multiline.Multiline.{has_line_end, TakesRow, MadeMultiline}
-use Rattle.jsonc_edit.specs.multiline.Plans.{IsFrom, Planned, PlannedRow, Gains, GainsChild, child_slots, begins_behind}
-use Rattle.jsonc_edit.proofs.lemmas.multiline.Planning.{planned_later, planned_none}
+use Rattle.jsonc_edit.specs.multiline.Plans.{IsFrom, Planned, PlannedRow, GainsChild, child_slots, begins_behind}
+use Rattle.jsonc_edit.proofs.lemmas.multiline.Planning.{planned_later, planned_leaves, planned_none}
 use Rattle.jsonc_edit.proofs.lemmas.multiline.RowByNode.{woven, both_woven}
 
 -- the row of c has been planned as far as these of its children
@@ -81,12 +82,12 @@ module _ (old now : List Node) (c : ℕ) (lines : Lines) (items : List ℕ) (ind
         }
 
   -- the whole row
-  pub row_planned : length items ≤ index → (later : List Node) (next : List ℕ) → Gains now row later next (last_line lines) → PlannedRow old later c (on_lines lines old (between (children_at old c))) next
-  row_planned h later next gains =
+  pub row_planned : length items ≤ index → (later : List Node) (next : List ℕ) → IsTree later → Gains now row later next (last_leaves lines) → PlannedRow old later c (on_lines lines old (between (children_at old c))) next
+  row_planned h later next tree gains =
       let all : s.done ≡ woven lines old true items = sym (append-nil s.done) ∙ ap (λ l. s.done ++ woven lines old begins l) (sym (drop_all index items h)) ∙ s.rest in
       let same : s.done ++ last_line lines ≡ on_lines lines old (between (children_at old c)) =
       ap (λ l. l ++ last_line lines) (all ∙ sym (both_woven lines old items).0 ∙ ap (λ l. flat_map (λ part. on_line lines (without_front old part)) (parts old l)) s.are) in
-      let planned : Planned old later c (index + 1) (s.done ++ last_line lines) next = gains old c (index + 1) s.done s.tree s.planned in
+      let planned : Planned old later c (index + 1) (s.done ++ last_line lines) next = planned_leaves old now c (index + 1) s.done row s.planned s.tree later next (last_leaves lines) tree gains in
       subst (λ l. Planned old later c (length (children_at old c) - 1) l next) same (planned_later old later c (index + 1) (s.done ++ last_line lines) next planned later (length (children_at old c) - 1) planned.tree (Keeps-same (length later) later) (omega (arith, s.far)))
 
 -- the children that are gone through

@@ -9,13 +9,14 @@ use Rattle.jsonc_tree.specs.Content.{Content}
 use Rattle.jsonc_tree.specs.OrderedTree.{OrderedTree, ordered_tree}
 use Rattle.jsonc_tree.specs.Siblings.{IsGap}
 use Rattle.jsonc_tree.specs.Tree.{Node, content_at, parent_at, children_at, is_in, IsTree}
-use Rattle.jsonc_tree.proofs.Builder.{Keeps-then, Keeps-fewer, Keeps-same}
+use Rattle.jsonc_tree.proofs.Builder.{Keeps-same}
 use Rattle.jsonc_tree.proofs.Splicing.{out_from}
 use Rattle.jsonc_layout.specs.from_input.Layout.{Layout}
 use Rattle.jsonc_layout.specs.from_input.Laid.{laid}
 use Rattle.jsonc_layout.specs.nodes.Kinds.{is_element_at}
 use Rattle.jsonc_layout.specs.nodes.Properties.{value_at, value_by}
 use Rattle.jsonc_layout.specs.lines.Breadth.{newline_kind_of}
+use Rattle.jsonc_layout.proofs.lemmas.Building.{still_kept}
 use Rattle.jsonc_edit.specs.Due.{listed}
 use Rattle.jsonc_edit.specs.Put.{Extends}
 use Rattle.jsonc_edit.specs.Changes.{top_at}
@@ -25,10 +26,6 @@ use Rattle.jsonc_edit.proofs.NodesKept.{built_top, top_stays, tree_stays}
 use Rattle.jsonc_edit.specs.set.RootSet.{first_place, leads_in, leads_out, line_end_if, FirstValue, IsFresh, KeepsNodes}
 use Rattle.jsonc_edit.proofs.lemmas.set.FirstGap.{gap_kept}
 use Rattle.jsonc_edit.proofs.lemmas.set.RootRow.{Rising, risen, around_rises, may_join}
-
--- what is ready stays ready while more is made
-pub still_kept : (a b c : List Node) → Keeps (length a) a b → Keeps (length b) b c → Keeps (length a) a c
-still_kept a b c first second = Keeps-then (length a) a b c first (Keeps-fewer (length a) (length b) b c first.len second)
 
 -- the document is what it was
 pub document_kept : (a b : List Node) → IsTree a → Keeps (length a) a b → IsTree b → ordered_tree b 0 ≡ ordered_tree a 0

@@ -31,7 +31,7 @@ use Rattle.jsonc_edit.proofs.ReplacedChildren.{laid_element}
 use Rattle.jsonc_edit.proofs.NodesKept.{built_top, over_no_old, top_stays}
 use Rattle.jsonc_edit.proofs.SpacedNodes.{around_children}
 use Rattle.jsonc_edit.specs.set.PropertyValues.{LastValue}
-use Rattle.jsonc_edit.proofs.lemmas.set.FirstValueMade.{still_kept}
+use Rattle.jsonc_layout.proofs.lemmas.Building.{still_kept}
 use Rattle.jsonc_edit.proofs.LeafKinds.{no_space}
 use Rattle.jsonc_edit.proofs.lemmas.commas.Children.{found_like}
 

@@ -24,7 +24,7 @@ use Rattle.jsonc_edit.proofs.NodesKept.{built_top, over_no_old, top_stays}
 use Rattle.jsonc_edit.proofs.SpacedNodes.{IsChild, around_children}
 use Rattle.jsonc_edit.proofs.Spacing.{Aside, AnySpaced, any_spaced}
 use Rattle.jsonc_edit.specs.set.Giving.{due_after, is_bare_value, property_top, PropertyReplacedBy, IsPropertyReplaced}
-use Rattle.jsonc_edit.proofs.lemmas.set.FirstValueMade.{still_kept}
+use Rattle.jsonc_layout.proofs.lemmas.Building.{still_kept}
 
 pub last_all : (P : ℕ → Type 0) (o : Option ℕ) (ys : List ℕ) → All P (listed o ++ ys) → All P ys
 last_all P None ys f = f

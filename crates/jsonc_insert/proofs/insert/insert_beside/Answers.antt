@@ -1,4 +1,4 @@
-use Rattle.std.proofs.Common.{◌∙◌, ◌++◌, ◌∷◌, ap, chars, option_map, string_bytes, subst}
+use Rattle.std.proofs.Common.{◌∙◌, chars, option_map, string_bytes, subst}
 use Rattle.jsonc_layout.specs.input.Views.{plain}
 use Rattle.jsonc_layout.specs.from_input.Layout.{layout_of}
 use Rattle.jsonc_insert.specs.Inserted.{NodesMade}
@@ -13,9 +13,8 @@ returns-clause-put g c =
     let v = plain c.args.value.now in
     let made = c.in_ok-made.made in
     let told = c.in_ok-told.told in
+    let is = c.in_ok-made.ensures.made in
     comes_between old ready c.args.tree.now.tree c.in_ok-made.ensures.prepared c.args.container c.requires.in_tree c.requires.brackets c.args.index name v (layout_of told.layout) (string_bytes told.outer) told.beside c.in_ok-told.ensures
-    made.element made.comma.items made.before.items made.behind.items
-    (subst (λ o. NodesMade old ready (layout_of told.layout) o told.beside.plan name v made.element made.comma.items made.before.items made.behind.items) c.as_str-outer.ensures.value c.in_ok-made.ensures.made)
-    c.put_beside.new.tree.nodes c.deref-3.result.now c.deref-4.result.now c.deref-3.ensures.value
-    (c.deref-4.ensures.value ∙ c.in_ok-written.ensures ∙ ap (λ l. l ++ made.element ∷ c.deref-2.result.now) c.deref.ensures.value ∙ ap (λ l. made.before.items ++ made.element ∷ l) c.deref-2.ensures.value)
-    c.put_beside.ensures
+    made.element made.comma.items is.0 is.1
+    (subst (λ o. NodesMade old ready (layout_of told.layout) o told.beside.plan name v made.element made.comma.items is.0 is.1) c.as_str-outer.ensures.value is.3)
+    c.put_beside.new.tree.nodes c.deref.result.now c.deref-2.result.now c.deref.ensures.value (c.deref-2.ensures.value ∙ is.2) c.put_beside.ensures

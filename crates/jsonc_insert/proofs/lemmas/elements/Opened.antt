@@ -157,7 +157,7 @@ module _ (o : Options) (kind : RowKind) (old : List Node) (c : ℕ) (tree : IsTr
           let fit = indents_fit old tree o shaped c over in
           let row : Reflows (standing old a.inner) (row_in old spread) =
           subst (λ (l : List ℕ). Reflows (standing old l) (row_in old spread)) row_between (row_reflows old tree lines (indent_joined (indents_at old c).current (indents_at old c).single fit.0 fit.1) fit.0 (between kids)) in
-          reflows (line_ends ∙ e) (row_newline old lines.newline (indent_if_any lines.outer) (flat_map (λ part. on_line lines (without_front old part)) (parts old (without_back old (between kids))))) row
+          reflows (line_ends ∙ e) (row_newline old lines.newline (map comes (indent_if_any lines.outer)) (flat_map (λ part. on_line lines (without_front old part)) (parts old (without_back old (between kids))))) row
 
   -- nodes that fill the places of the row on several lines have the brackets around what is in them
   module _ (lined : List Node) (lines : List ℕ) (filled : AreFilled old lined (opened old c) lines) where

@@ -109,14 +109,14 @@ module _ (lines : Lines) (ns : List Node) where
   last_stays : staying (last_line lines) ≡ []
   last_stays = by lines.outer
     where
-      by : (s : List ℕ) → staying (indent_if_any s) ≡ []
+      by : (s : List ℕ) → staying (map comes (indent_if_any s)) ≡ []
       by [] = refl
       by (c ∷ rest) = refl
 
   last_none : NoneComes (last_line lines)
   last_none = (refl, by lines.outer)
     where
-      by : (s : List ℕ) → NoneComes (indent_if_any s)
+      by : (s : List ℕ) → NoneComes (map comes (indent_if_any s))
       by [] = tt
       by (c ∷ rest) = (refl, tt)
 

@@ -13,13 +13,15 @@ use Rattle.jsonc_tree.proofs.Builder.{Keeps-same}
 use Rattle.jsonc_tree.proofs.Order.{parent_there}
 use Rattle.jsonc_edit.specs.Put.{Extends}
 use Rattle.jsonc_edit.specs.remove.Removed as removed
-use Rattle.jsonc_edit.specs.multiline.Slots.{Slot, stays, AreFilled, no_more, stayed, came}
+use Rattle.jsonc_edit.specs.multiline.Slots.{Slot, stays, AreFilled, no_more, stayed}
 use Rattle.jsonc_edit.specs.multiline.Lines.{lines_for, spread_row}
 use Rattle.jsonc_edit.specs.multiline.Multiline.{has_line_end}
 use Rattle.jsonc_edit.specs.multiline.Plans.{IsFrom, PlannedRow}
 use Rattle.jsonc_insert.specs.Planned.{has_brackets}
 use Rattle.jsonc_layout.specs.nodes.Kinds.{is_token}
-use Rattle.jsonc_insert.proofs.NoDuplicates.{apart_by, once_append}
+use Rattle.jsonc_layout.proofs.lemmas.Building.{once_append}
+use Rattle.jsonc_edit.proofs.lemmas.multiline.Planning.{filled_append}
+use Rattle.jsonc_insert.proofs.NoDuplicates.{apart_by}
 use Rattle.jsonc_insert.proofs.TrimmedRows.{front_token, has_two}
 use Rattle.jsonc_insert.specs.members.Opened.{enclosed, opened, IsOfRow, IsOpened}
 use Rattle.jsonc_insert.proofs.lemmas.elements.Containers.{both_true}
@@ -78,11 +80,6 @@ brackets_there ns c e =
 pub filled_as : (old now : List Node) (xs : List ℕ) → AreFilled old now (map stays xs) xs
 filled_as old now [] = no_more
 filled_as old now (x ∷ xs) = stayed (filled_as old now xs)
-
-filled_more : (old now : List Node) (n : ℕ) (slots : List Slot) (row : List ℕ) → AreFilled old now slots row → AreFilled old now (slots ++ stays n ∷ []) (row ++ n ∷ [])
-filled_more old now n _ _ no_more = stayed no_more
-filled_more old now n _ _ (stayed {slots = slots} {row = row} rest) = stayed (filled_more old now n slots row rest)
-filled_more old now n _ _ (came {slots = slots} {row = row} a b c d rest) = came a b c d (filled_more old now n slots row rest)
 
 module _ (old : List Node) (tree : IsTree old) (c : ℕ) where
   abbrev kids : List ℕ
@@ -210,7 +207,7 @@ module _ (old : List Node) (tree : IsTree old) (c : ℕ) where
         subst (IsOpened old lined c) (sym is)
         (record {
           prepared = prepared;
-          filled = subst (λ l. AreFilled old lined l whole) (sym slots_are) (stayed (filled_more old lined back slots inside p.filled));
+          filled = subst (λ l. AreFilled old lined l whole) (sym slots_are) (stayed (filled_append old lined slots inside (stays back ∷ []) (back ∷ []) p.filled (stayed no_more)));
           from = from_whole;
           once = once_whole;
           brackets = brackets_whole;

@@ -14,7 +14,7 @@ use Rattle.jsonc_edit.specs.Put.{Extends}
 use Rattle.jsonc_edit.specs.multiline.Lines.{lines_for, spread_row}
 use Rattle.jsonc_edit.specs.multiline.Multiline.{has_line_end}
 use Rattle.jsonc_edit.specs.multiline.Plans.{PlannedRow}
-use Rattle.jsonc_edit.proofs.lemmas.set.FirstValueMade.{still_kept}
+use Rattle.jsonc_layout.proofs.lemmas.Building.{still_kept}
 use Rattle.jsonc_insert.specs.Inserted.{EntryPut}
 use Rattle.jsonc_insert.specs.Planned.{has_brackets}
 use Rattle.jsonc_insert.specs.Trimmed.{trimmed}

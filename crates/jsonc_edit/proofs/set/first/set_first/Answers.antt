@@ -1,7 +1,8 @@
 use Rattle.jsonc_layout.specs.input.Views.{plain}
 use Rattle.jsonc_layout.specs.from_input.Layout.{layout_of}
 use Rattle.jsonc_edit.proofs.ReplacedChildren.{where_refused}
-use Rattle.jsonc_edit.proofs.lemmas.set.FirstValueMade.{still_kept, document_kept, can_join, gap_still, nodes_stay, first_value}
+use Rattle.jsonc_layout.proofs.lemmas.Building.{still_kept}
+use Rattle.jsonc_edit.proofs.lemmas.set.FirstValueMade.{document_kept, can_join, gap_still, nodes_stay, first_value}
 use Rattle.jsonc_edit.specs.set.RootSet.{first_place}
 use Rattle.jsonc_edit.proofs.lemmas.set.FirstGap.{none_behind}
 use Rattle.jsonc_edit.proofs.set.first.set_first.Goals as goal

@@ -1,7 +1,0 @@
-use Rattle.std.proofs.Common.{refl}
-use Rattle.jsonc_edit.proofs.lemmas.multiline.Planning.{gains_where}
-use Rattle.jsonc_edit.proofs.commenting.above.push_own_line.Goals as goal
-
-pub returns-clause-gains : goal.returns-clause-gains
-returns-clause-gains g c =
-    gains_where c.args.tree.now.nodes c.push_comment.new.tree.nodes c.push_line.new.tree.nodes c.args.row.now.items c.push_comment.new.row.items c.push_line.new.row.items _ _ _ c.push_line.result refl c.in_ok-push_comment.ensures.gains c.push_line.ensures.gains
