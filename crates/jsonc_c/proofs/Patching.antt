@@ -35,7 +35,7 @@ use Rattle.jsonc_parser.specs.declared.patch.reading.PatchError.{PatchError}
 use Rattle.jsonc_parser.specs.declared.patch.reading.PatchError.TheVariants as patch
 use Rattle.jsonc_parser.specs.declared.patch.reference.FindError.TheVariants as finding
 use Rattle.jsonc_c.specs.PatchTold.{IsToldOfName, IsToldOfOperation, IsToldOfPatch, IsToldOfPointer, TellsOfPatches, cause_status}
-use Rattle.jsonc_c.specs.Patches.{IsFound, IsMergedBy, IsNoDocument, IsNoMergePatch, IsNoPatch, IsNoPointer, IsPatchedBy, IsToldAlone, IsUnfound, IsUnmerged, IsUnpatched}
+use Rattle.jsonc_c.specs.Patches.{IsFound, IsMergedBy, IsNoDocument, IsNoMergePatch, IsNoPatch, IsNoPointer, IsPatchedBy, IsToldAlone, IsUnfound, IsUnmerged, IsUnopened, IsUnpatched}
 use Rattle.jsonc_c.specs.Told.{IsToldOf, no_fault}
 use Rattle.jsonc_c.specs.declared.fault.JsoncFault.{JsoncFault}
 
@@ -94,6 +94,11 @@ no_pointer bytes text read e status old f none why (inr told) same = IsNoPointer
 text_of_shown : {A : Type 0} (e : Document) (new : CstRootNode A) (made : List ℕ) → Shows e (tree_of new) → made ≡ printed_of new → e.text ≡ chars made
 text_of_shown e new made shown prints = ap (λ d. d.text) shown.is ∙ ap chars (sym prints)
 
+-- without a pointer or a document nothing is found
+pub unopened_finds_none : {o : Options} {pointer text : List ℕ} {status : ℕ} {f : JsoncFault} → IsUnopened o pointer text status f → IsUnfound o pointer text status f
+unopened_finds_none (inl why) = IsUnfound.for_pointer why
+unopened_finds_none (inr why) = IsUnfound.for_document why
+
 module _ {A : Type 0} (o : Options) (words text : List ℕ) (doc : CstRootNode A) (shown : ShowsText o (chars text) (tree_of doc)) (old f : JsoncFault) (none : old ≡ no_fault) where
   module _ (tokens : List (List ℕ)) (is : pointer_text tokens ≡ chars words) where
     pub found_there : (node : CstNode) (made : List ℕ) → IsOfShown doc (λ d. Finds d doc tokens (Some node)) → made ≡ printed (ordered_tree (nodes_of doc) (number_of node)) → IsFound o words text made
@@ -127,7 +132,7 @@ module _ {A : Type 0} (o : Options) (words text : List ℕ) (doc : CstRootNode A
     numbers : IsOfNumbers shown.0.options p
     numbers = subst (λ (q : Options). IsOfNumbers q p) (sym shown.1) fits
 
-    pub merged_so : (new : CstRootNode A) (made : List ℕ) → MergesWhatShown doc p new → made ≡ printed_of new → IsMergedBy A o words text made
+    pub merged_so : (new : CstRootNode A) (made : List ℕ) → MergesWhatShown doc p new → made ≡ printed_of new → IsMergedBy o words text made
     merged_so new made h prints =
         let e = h shown.0 shown.3 numbers in
         (p, is, (shown.0, nodes_of doc, shown.1, shown.2, shown.3, (e.0, text_of_shown e.0 new made e.1 prints, e.2)))
@@ -141,10 +146,10 @@ module _ {A : Type 0} (o : Options) (words text : List ℕ) (doc : CstRootNode A
 abbrev pub Ends : ℕ → JsoncFault → Type 0
 Ends status f = (1 ≤ status) × ¬ (status ≡ 17) × TellsOfPatches status f
 
-ends_untold : (k status : ℕ) (f : JsoncFault) → status ≡ k → 1 ≤ k → k < 17 → f ≡ no_fault → Ends status f
+pub ends_untold : (k status : ℕ) (f : JsoncFault) → status ≡ k → 1 ≤ k → k < 17 → f ≡ no_fault → Ends status f
 ends_untold k status f is some below none = (omega (arith, is, some), λ e. omega (arith, is, below, e), λ four seven past. none)
 
-ends_past : (k status : ℕ) (f : JsoncFault) → status ≡ k → 19 ≤ k → Ends status f
+pub ends_past : (k status : ℕ) (f : JsoncFault) → status ≡ k → 19 ≤ k → Ends status f
 ends_past k status f is past = (omega (arith, is, past), λ e. omega (arith, is, past, e), λ four seven below. absurd (omega (arith, is, past, below)))
 
 ends_text : (status : ℕ) (f : JsoncFault) → status ≡ 4 → Ends status f
@@ -153,12 +158,12 @@ ends_text status f is = (omega (arith, is), λ e. omega (arith, is, e), λ four 
 ends_json : (status : ℕ) (f : JsoncFault) → status ≡ 7 → Ends status f
 ends_json status f is = (omega (arith, is), λ e. omega (arith, is, e), λ four seven below. absurd (seven is))
 
-no_document_ends : {o : Options} {text : List ℕ} {status : ℕ} {f : JsoncFault} → IsNoDocument o text status f → Ends status f
+pub no_document_ends : {o : Options} {text : List ℕ} {status : ℕ} {f : JsoncFault} → IsNoDocument o text status f → Ends status f
 no_document_ends {status = s} {f = f} (IsNoDocument.for_memory is none) = ends_untold 1 s f is (omega arith) (omega arith) none
 no_document_ends {status = s} {f = f} (IsNoDocument.for_bytes is none other) = ends_untold 3 s f is (omega arith) (omega arith) none
 no_document_ends {status = s} {f = f} (IsNoDocument.for_text e is told refused) = ends_text s f is
 
-no_pointer_ends : {pointer : List ℕ} {status : ℕ} {f : JsoncFault} → IsNoPointer pointer status f → Ends status f
+pub no_pointer_ends : {pointer : List ℕ} {status : ℕ} {f : JsoncFault} → IsNoPointer pointer status f → Ends status f
 no_pointer_ends {status = s} {f = f} (IsNoPointer.for_memory is none) = ends_untold 1 s f is (omega arith) (omega arith) none
 no_pointer_ends {status = s} {f = f} (IsNoPointer.for_bytes is none other) = ends_untold 2 s f is (omega arith) (omega arith) none
 no_pointer_ends {status = s} {f = f} (IsNoPointer.for_pointer e is told why) = ends_past 19 s f is (omega arith)

@@ -1,5 +1,5 @@
 -- What calls of pointers and patches make of a text, and why they make nothing of it.
-use Rattle.std.specs.Prelude.{◌≡◌, ℕ, List, None, IsUtf8, String, chars, map, string_bytes}
+use Rattle.std.specs.Prelude.{◌≡◌, ◌⊎◌, ℕ, List, None, IsUtf8, String, chars, map, string_bytes}
 use Rattle.jsonc_text.specs.Documents.{Document}
 use Rattle.jsonc_text.specs.Grammar.{IsDocument}
 use Rattle.jsonc_text.specs.Options.{Options}
@@ -45,8 +45,8 @@ IsPatchedBy A o patch text made = (operations : List (Operation A)) × IsPatch o
     × OfDocument o text (λ d ns. (e : Document) × (e.text ≡ chars made) × IsPatched d operations e)
 
 -- the same of a merge patch (RFC 7396, 2)
-abbrev pub IsMergedBy : Type 0 → Options → List ℕ → List ℕ → List ℕ → Type 0
-IsMergedBy A o patch text made = (p : Plain) × IsMergePatch o (chars patch) p × OfDocument o text (λ d ns. (e : Document) × (e.text ≡ chars made) × IsMerged A d p e)
+abbrev pub IsMergedBy : Options → List ℕ → List ℕ → List ℕ → Type 0
+IsMergedBy o patch text made = (p : Plain) × IsMergePatch o (chars patch) p × OfDocument o text (λ d ns. (e : Document) × (e.text ≡ chars made) × IsMerged d p e)
 
 -- an error of parsing is told, and of no operations
 abbrev pub IsToldAlone : ParseError → JsoncFault → Type 0
@@ -78,6 +78,10 @@ pub data IsNoMergePatch (o : Options) (patch : List ℕ) (status : ℕ) (f : Jso
   for_text : (e : ParseError) → status ≡ 7 → IsToldAlone e f → IsRefusalOf o patch e → IsNoMergePatch o patch status f
   for_value : status ≡ 8 → f ≡ no_fault → IsDocument o (chars patch) None → IsNoMergePatch o patch status f
   for_name : (name : List ℕ) → status ≡ 21 → IsToldOfName name f → OfValue o patch (RepeatsName (chars name)) → IsNoMergePatch o patch status f
+
+-- there is no pointer, or no document
+abbrev pub IsUnopened : Options → List ℕ → List ℕ → ℕ → JsoncFault → Type 0
+IsUnopened o pointer text status f = IsNoPointer pointer status f ⊎ IsNoDocument o text status f
 
 -- Why nothing is found: there is no pointer, or no document; it refers to nothing; or on its way this name stands twice in its object.
 pub data IsUnfound (o : Options) (pointer text : List ℕ) (status : ℕ) (f : JsoncFault) : Type 0 where

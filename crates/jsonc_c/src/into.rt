@@ -403,7 +403,7 @@ pub extern "C" fn jsonc_merge_patch_into(
     fault: &mut JsoncFault,
 ) -> u32
     ensures merged { result ≡ 0 →
-        IsMergedBy Global (options_of options) patch.now text.now (take len.new room.new) }
+        IsMergedBy (options_of options) patch.now text.now (take len.new room.new) }
     ensures no_room { result ≡ 17 → length room.old < len.new }
     ensures len { ¬ (result ≡ 0) → ¬ (result ≡ 17) → len.new ≡ 0 }
     ensures unwritten { ¬ (result ≡ 0) → room.new ≡ room.old }

@@ -1,5 +1,5 @@
 //! The value at a JSON Pointer (RFC 6901), JSON Patches (RFC 6902) and merge patches (RFC 7396).
-ghost use Rattle.std.specs.Prelude.{◌≡◌, ◌≤◌, List, ℕ, [], IfErr, IfOk, OnOk, chars, string_bytes};
+ghost use Rattle.std.specs.Prelude.{◌≡◌, ◌≤◌, List, ℕ, [], IfErr, IfOk, OnOk, Some, chars, string_bytes};
 ghost use Rattle.std.specs.List.{All};
 ghost use Rattle.std.specs.declared.alloc.Global.{Global};
 ghost use Rattle.jsonc_text.specs.Options.{Options};
@@ -7,8 +7,9 @@ ghost use Rattle.jsonc_text.specs.OptionsOf.{parse_options};
 ghost use Rattle.jsonc_edit.specs.Writing.{IsOfNumbers};
 ghost use Rattle.jsonc_layout.specs.input.Views.{plain};
 ghost use Rattle.jsonc_sound.specs.Documents.{ShowsText};
-ghost use Rattle.jsonc_cst.specs.Document.{tree_of};
+ghost use Rattle.jsonc_cst.specs.Document.{HasNode, tree_of};
 ghost use Rattle.jsonc_parser.specs.patch.Asked.{FitsIn};
+ghost use Rattle.jsonc_parser.specs.patch.Found.{Finds, IsOfShown};
 ghost use Rattle.jsonc_parser.specs.patch.MergeTexts.{IsMergePatch};
 ghost use Rattle.jsonc_parser.specs.patch.PatchTexts.{IsPatch};
 ghost use Rattle.jsonc_parser.specs.patch.Patches.{operations_in, operations_of};
@@ -16,7 +17,7 @@ ghost use Rattle.jsonc_parser.specs.patch.Pointer.{pointer_text, tokens_of};
 ghost use Rattle.jsonc_c.specs.Options.{options_of};
 ghost use Rattle.jsonc_c.specs.PatchTold.{TellsOfPatches};
 ghost use Rattle.jsonc_c.specs.Patches.{IsFound, IsMergedBy, IsPatchedBy};
-ghost use Rattle.jsonc_c.specs.Patches.{IsNoDocument, IsNoMergePatch, IsNoPatch, IsNoPointer, IsUnfound, IsUnmerged, IsUnpatched};
+ghost use Rattle.jsonc_c.specs.Patches.{IsNoDocument, IsNoMergePatch, IsNoPatch, IsNoPointer, IsUnfound, IsUnmerged, IsUnopened, IsUnpatched};
 ghost use Rattle.jsonc_c.specs.Told.{no_fault};
 
 use crate::fault::{
@@ -27,7 +28,7 @@ use crate::handed::hand_out;
 use crate::options::options_of;
 use crate::patch_fault::{tell_name, tell_operation, tell_patch, tell_pointer};
 use jsonc_parser::ParseOptions;
-use jsonc_parser::cst::{CstInputValue, CstRootNode, TypedNode};
+use jsonc_parser::cst::{CstInputValue, CstNode, CstRootNode, TypedNode};
 use jsonc_parser::patch::{
     FindError, MergeFault, MergePatchError, Patch, PatchError, Pointer, find, merge,
     merge_patch_from_json,
@@ -73,27 +74,50 @@ fn pointer_of(alloc: Global, pointer: &[u8], fault: &mut JsoncFault) -> Result<P
     }
 }
 
-/// The value that a pointer refers to in a document, as it is written there.
-fn shown_at(
+/// The pointer of bytes, which is read first, and the document of bytes.
+pub(crate) fn opened(
+    alloc: Global,
+    text: &[u8],
+    pointer: &[u8],
+    options: u32,
+    fault: &mut JsoncFault,
+) -> Result<(CstRootNode<Global>, Pointer<Global>), u32>
+    ensures document { IfOk result
+        (λ read. ShowsText (options_of options) (chars text.now) (tree_of read.0)) }
+    ensures pointer { IfOk result (λ read. pointer_text (tokens_of read.1) ≡ chars pointer.now) }
+    ensures refused { IfErr result
+        (λ status. IsUnopened (options_of options) pointer.now text.now status fault.new) }
+    ensures untold { OnOk result (fault.new ≡ no_fault) }
+{
+    *fault = no_fault();
+    let pointer = match pointer_of(alloc, pointer, fault) {
+        Ok(pointer) => pointer,
+        Err(status) => return Err(status),
+    };
+    match document_of(alloc, text, &options_of(options), fault) {
+        Ok(document) => Ok((document, pointer)),
+        Err(status) => Err(status),
+    }
+}
+
+/// The value that a pointer refers to in a document.
+pub(crate) fn value_at(
     alloc: Global,
     document: &CstRootNode<Global>,
     pointer: &Pointer<Global>,
     fault: &mut JsoncFault,
-) -> Result<String, u32>
+) -> Result<CstNode, u32>
     requires untold { fault.old ≡ no_fault }
-    ensures found { (o : Options) (words text : List ℕ)
+    ensures found { IfOk result (λ node. IsOfShown document.now
+        (λ d. Finds d document.now (tokens_of pointer.now) (Some node))) }
+    ensures in_document { IfOk result (HasNode document.now) }
+    ensures refused { IfErr result (λ status. (o : Options) (words text : List ℕ)
         → pointer_text (tokens_of pointer.now) ≡ chars words → ShowsText o (chars text) (tree_of document.now)
-        → IfOk result (λ made. IsFound o words text (string_bytes made)) }
-    ensures refused { (o : Options) (words text : List ℕ)
-        → pointer_text (tokens_of pointer.now) ≡ chars words → ShowsText o (chars text) (tree_of document.now)
-        → IfErr result (λ status. IsUnfound o words text status fault.new) }
+        → IsUnfound o words text status fault.new) }
     ensures untold { OnOk result (fault.new ≡ no_fault) }
 {
     match find(document, pointer) {
-        Ok(Some(node)) => match node.shown(document).to_string(alloc) {
-            Ok(text) => Ok(text),
-            Err(_) => Err(OUT_OF_MEMORY),
-        },
+        Ok(Some(node)) => Ok(node),
         Ok(None) => Err(NO_SUCH_VALUE),
         Err(FindError::RepeatedName(name)) => Err(tell_name(alloc, &name, fault)),
         Err(FindError::OutOfMemory) => Err(OUT_OF_MEMORY),
@@ -114,16 +138,18 @@ pub(crate) fn found(
         (λ status. IsUnfound (options_of options) pointer.now text.now status fault.new) }
     ensures untold { OnOk result (fault.new ≡ no_fault) }
 {
-    *fault = no_fault();
-    let pointer = match pointer_of(alloc, pointer, fault) {
-        Ok(pointer) => pointer,
+    let (document, pointer) = match opened(alloc, text, pointer, options, fault) {
+        Ok(read) => read,
         Err(status) => return Err(status),
     };
-    let document = match document_of(alloc, text, &options_of(options), fault) {
-        Ok(document) => document,
+    let node = match value_at(alloc, &document, &pointer, fault) {
+        Ok(node) => node,
         Err(status) => return Err(status),
     };
-    shown_at(alloc, &document, &pointer, fault)
+    match node.shown(&document).to_string(alloc) {
+        Ok(text) => Ok(text),
+        Err(_) => Err(OUT_OF_MEMORY),
+    }
 }
 
 /// The patch of bytes.
@@ -243,7 +269,7 @@ fn text_with(
     ensures merged { (o : Options) (words text : List ℕ)
         → IsMergePatch o (chars words) (plain patch.now) → IsOfNumbers o (plain patch.now)
         → ShowsText o (chars text) (tree_of document)
-        → IfOk result (λ made. IsMergedBy Global o words text (string_bytes made)) }
+        → IfOk result (λ made. IsMergedBy o words text (string_bytes made)) }
     ensures refused { (o : Options) (words text : List ℕ)
         → IsMergePatch o (chars words) (plain patch.now) → IsOfNumbers o (plain patch.now)
         → ShowsText o (chars text) (tree_of document)
@@ -272,7 +298,7 @@ pub(crate) fn merged(
     fault: &mut JsoncFault,
 ) -> Result<String, u32>
     ensures merged { IfOk result
-        (λ made. IsMergedBy Global (options_of options) patch.now text.now (string_bytes made)) }
+        (λ made. IsMergedBy (options_of options) patch.now text.now (string_bytes made)) }
     ensures refused { IfErr result
         (λ status. IsUnmerged Global (options_of options) patch.now text.now status fault.new) }
     ensures untold { OnOk result (fault.new ≡ no_fault) }
@@ -368,7 +394,7 @@ pub extern "C" fn jsonc_merge_patch(
     out: &mut &'static [u8],
     fault: &mut JsoncFault,
 ) -> u32
-    ensures merged { result ≡ 0 → IsMergedBy Global (options_of options) patch.now text.now out.new.now }
+    ensures merged { result ≡ 0 → IsMergedBy (options_of options) patch.now text.now out.new.now }
     ensures refused { ¬ (result ≡ 0) →
         IsUnmerged Global (options_of options) patch.now text.now result fault.new }
     ensures empty { ¬ (result ≡ 0) → out.new.now ≡ [] }

@@ -14,4 +14,5 @@ pub mod Renaming
 pub mod SetCalls
 pub mod Setting
 pub mod Steps
+pub mod There
 pub mod Values

@@ -27,6 +27,7 @@ mod removing;
 mod renaming;
 mod replacing;
 mod setting;
+mod there;
 mod values;
 
 pub use document::DocumentArg;

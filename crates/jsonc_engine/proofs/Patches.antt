@@ -165,10 +165,10 @@ module _ {A : Type 0} (o : Options) (doc : CstRootNode A) (sound : SoundTree o (
     numbers : IsOfNumbers shows.0.options p
     numbers = subst (λ o. IsOfNumbers o p) (sym shows.1) patch.1
 
-    pub merged : HasNoDeeperValue o input → (new : CstRootNode A) → MergesWhatShown doc p new → IsMergedInto A o words input (printed_of new)
+    pub merged : HasNoDeeperValue o input → (new : CstRootNode A) → MergesWhatShown doc p new → IsMergedInto o words input (printed_of new)
     merged small new h =
         let e = h shows.0 shows.3 numbers in
-        record { value = p; patch = patch.0; made = of_it _ (text_of_new small new (λ e. IsMerged A shows.0 p e) e.0 e.1 e.2 e.2.options e.2.within) }
+        record { value = p; patch = patch.0; made = of_it _ (text_of_new small new (λ e. IsMerged shows.0 p e) e.0 e.1 e.2 e.2.options e.2.within) }
 
     pub met_twice : (name : String A) → MergeStopsWhatShown doc p (merging.RepeatedName name) → IsFaultOn {A = A} o (merge words) input (told.RepeatedName name)
     met_twice name h = go (h shows.0 shows.3 numbers)

@@ -23,7 +23,7 @@ IsLeft A o print input text = text ≡ input
 IsLeft A o (get path) input text = IsGot o path input text
 IsLeft A o (find pointer) input text = IsFound o pointer input text
 IsLeft A o (patch words most) input text = IsApplied A o words most input text
-IsLeft A o (merge words) input text = IsMergedInto A o words input text
+IsLeft A o (merge words) input text = IsMergedInto o words input text
 IsLeft A o as_json input text = IsUtf8 input × IsJsonOf (chars input) (chars text)
 IsLeft A o request input text = IsMadeOf o request input text
 

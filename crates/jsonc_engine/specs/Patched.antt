@@ -56,10 +56,10 @@ pub record IsApplied (A : Type 0) (o : Options) (text : List ℕ) (most : ℕ) (
   pub within : operations ≢ [] → length output ≤ most
 
 -- merging the patch leads from the document of the input to that of the output
-pub record IsMergedInto (A : Type 0) (o : Options) (text input output : List ℕ) : Type 0 where
+pub record IsMergedInto (o : Options) (text input output : List ℕ) : Type 0 where
   pub value : Plain
   pub patch : IsMergePatch o (chars text) value
-  pub made : OfDocument o input (λ d. IsTextOf o output (λ e. IsMerged A d value e))
+  pub made : OfDocument o input (λ d. IsTextOf o output (λ e. IsMerged d value e))
 
 -- if an edit was refused, a value would be nested too deep
 abbrev pub IsNotForMemory : {A : Type 0} → PatchFault A → Type 0

@@ -100,7 +100,7 @@ pub(crate) fn merged<A: Allocator + Copy>(
 ) -> Result<Output<A>, Fault<A>>
     ensures made { (o : Options) (text : List ℕ) → IsMergePatchOf o text (plain patch.now)
         → SoundTree o (tree_of document) → HasNoDeeperValue o (printed_of document)
-        → IfOk result (λ output. IsMergedInto A o text (printed_of document) (output_bytes output)) }
+        → IfOk result (λ output. IsMergedInto o text (printed_of document) (output_bytes output)) }
     ensures refused { (o : Options) (text : List ℕ) → IsMergePatchOf o text (plain patch.now)
         → SoundTree o (tree_of document)
         → IfErr result (IsFaultOn o (merging text) (printed_of document)) }

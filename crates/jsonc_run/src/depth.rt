@@ -46,6 +46,25 @@ fn room_at<A: Allocator>(tree: &Tree<A>, node: usize) -> Option<usize>
     Some(room)
 }
 
+/// Whether a value would be nested too deep where it is put so many levels below what is at a node's place.
+pub fn is_too_deep_below<A: Allocator>(
+    tree: &Tree<A>,
+    node: usize,
+    levels: usize,
+    value: &CstInputValue<A>,
+) -> bool
+    requires { node < length tree.now.nodes }
+    ensures { (result ≡ true) ↔ (512 < nesting_at tree.now.nodes node + (levels + around (plain value.now))) }
+{
+    let Some(room) = room_at(tree, node) else {
+        return true;
+    };
+    if room < levels {
+        return true;
+    }
+    !value.is_within(room - levels)
+}
+
 // Whether a value is nested too deep where it is put so many levels below the node that was found.
 fn is_deep_below<A: Allocator>(
     tree: &Tree<A>,
@@ -60,13 +79,7 @@ fn is_deep_below<A: Allocator>(
     let Some(node) = found else {
         return false;
     };
-    let Some(room) = room_at(tree, node) else {
-        return true;
-    };
-    if room < levels {
-        return true;
-    }
-    !value.is_within(room - levels)
+    is_too_deep_below(tree, node, levels, value)
 }
 
 /// Whether a value in what an edit writes would have more than 512 containers and properties around it.

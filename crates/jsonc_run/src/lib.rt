@@ -29,6 +29,7 @@ mod making;
 mod places;
 pub mod promise;
 
+pub use depth::is_too_deep_below;
 pub use edit::Edit;
 pub use jsonc_edit::{Over, Shape};
 pub use jsonc_text::edit::Place;

@@ -11,6 +11,7 @@ pub mod Roots
 pub mod CompleteNodes
 pub mod Places
 pub mod Steps
+pub mod There
 pub mod Multiline
 pub mod InsertedElements
 pub mod Trailing

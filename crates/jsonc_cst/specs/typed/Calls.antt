@@ -1,9 +1,9 @@
 -- What the edits of typed nodes make of a document, and what they answer: each record is the one clause of its calls. SetCalls.antt has those that set a value.
-use Rattle.std.specs.Prelude.{◌≡◌, ℕ, false, None, Option, Result, Err, IfErr, IfNone, IfOk, IfSome, IsTrue, OnErr, OnOk}
+use Rattle.std.specs.Prelude.{◌≡◌, ℕ, true, false, None, Option, Result, Err, IfErr, IfNone, IfOk, IfSome, IsTrue, OnErr, OnOk}
 use Rattle.jsonc_text.specs.Options.{Options}
 use Rattle.jsonc_text.specs.Plain.{Plain}
 use Rattle.jsonc_text.specs.declared.edit.EditError.{EditError}
-use Rattle.jsonc_text.specs.declared.edit.EditError.TheVariants.{NotAnEntry, OutOfMemory}
+use Rattle.jsonc_text.specs.declared.edit.EditError.TheVariants.{NoSuchPlace, NotAnEntry, OutOfMemory}
 use Rattle.jsonc_text.specs.declared.edit.TrailingCommaMode.{TrailingCommaMode}
 use Rattle.jsonc_text.specs.declared.edit.TrailingCommaMode.TheVariants.{IfMultiline}
 use Rattle.jsonc_tree.specs.Tree.{parent_at}
@@ -19,7 +19,7 @@ use Rattle.jsonc_cst.specs.typed.Inserting.{HasInsertedElement, InsertError, IsI
 use Rattle.jsonc_cst.specs.typed.Lines.{HasSpreadOut, IsOnLines, StaysUnspread}
 use Rattle.jsonc_cst.specs.typed.Removing.{is_name_or_value, removal_of, EntryCleared, NodeRemoved, IsKeptForMemory, IsKeptIn, IsKeptWithComments, IsLoose}
 use Rattle.jsonc_cst.specs.typed.Removing.{RemovalAround, RemovalKeepsDocument, RemovedIsDetached, RemovalWritten}
-use Rattle.jsonc_cst.specs.typed.Steps.{IsHolder, IsRemoving, IsReplacing, IsSettingCommas, IsSettingSomeCommas, IsSpreading, IsValueIn}
+use Rattle.jsonc_cst.specs.typed.Steps.{is_value, IsHolder, IsRemoving, IsReplacing, IsSettingCommas, IsSettingSomeCommas, IsSpreading, IsValueIn}
 
 -- The node has been removed with what is removed with it, and is detached: one step. If the document was sound, it is so without that entry, value or comment, and
 -- what is around stays. Or an error has left every node as it was, for the memory of a space or for brackets that are missing.
@@ -74,6 +74,14 @@ pub record IsReplacement {A : Type 0} (old new : CstRootNode A) (node : CstNode)
   pub handles : HandlesStay old new
   pub memory : IfErr r (λ e. e ≡ OutOfMemory)
   pub child : OnErr r (parent_of old node ≡ None → ⊥)
+  pub kept : OnErr r (Unchanged old new)
+  pub document : OnErr r (tree_of new ≡ tree_of old)
+
+-- So an array, an object or a literal has been replaced. Of any other node the error is NoSuchPlace, before anything has changed.
+pub record IsValueReplacement {A : Type 0} (old new : CstRootNode A) (node : CstNode) (v : Plain) (r : Result (Option CstNode) EditError) : Type 0 where
+  pub replaced : is_value node ≡ true → IsReplacement old new node v r
+  pub refused : is_value node ≡ false → (r ≡ Err NoSuchPlace) × IsUntouched old new
+  pub handles : HandlesStay old new
   pub kept : OnErr r (Unchanged old new)
   pub document : OnErr r (tree_of new ≡ tree_of old)
 

@@ -1,5 +1,5 @@
 -- Calls as steps of one chain: which edit each call is, of which place.
-use Rattle.std.specs.Prelude.{◌≡◌, ◌⊎◌, ℕ, Bool, false, List, []}
+use Rattle.std.specs.Prelude.{◌≡◌, ◌⊎◌, ℕ, Bool, true, false, List, []}
 use Rattle.jsonc_text.specs.Plain.{Plain}
 use Rattle.jsonc_tree.specs.Tree.{Node}
 use Rattle.jsonc_edit.specs.Paths.{IsAt}
@@ -22,6 +22,17 @@ use Rattle.jsonc_cst.specs.declared.typed.removing.Removal.TheVariants.{Clearing
 -- n is the document itself, or a value at the path
 abbrev pub IsWholeOrAt : List Node → List ℕ → ℕ → Type 0
 IsWholeOrAt ns path n = ((n ≡ 0) × (path ≡ [])) ⊎ IsAt ns path n
+
+-- the node is an array, an object or a literal, the name of a property too
+abbrev pub is_value : CstNode → Bool
+is_value (Container (Array x)) = true
+is_value (Container (Object x)) = true
+is_value (Leaf (BooleanLit x)) = true
+is_value (Leaf (NullKeyword x)) = true
+is_value (Leaf (NumberLit x)) = true
+is_value (Leaf (StringLit x)) = true
+is_value (Leaf (WordLit x)) = true
+is_value node = false
 
 -- the node is an array, an object or a literal, and not the name of a property
 abbrev pub IsValueIn : List Node → CstNode → Type 0

@@ -4,15 +4,17 @@ ghost use Rattle.std.specs.Prelude.{◌≡◌, ◌<◌, length};
 ghost use Rattle.jsonc_layout.specs.input.Views.{plain};
 ghost use Rattle.jsonc_layout.specs.nodes.Properties.{name_at};
 ghost use Rattle.jsonc_cst.specs.Document.{HasNode};
-ghost use Rattle.jsonc_cst.specs.typed.Calls.{IsReplacement};
+ghost use Rattle.jsonc_cst.specs.typed.Calls.{IsReplacement, IsValueReplacement};
 ghost use Rattle.jsonc_cst.specs.typed.Edits.{is_found, is_name_in};
+ghost use Rattle.jsonc_cst.specs.typed.Steps.{is_value};
 ghost use Rattle.jsonc_cst.specs.Nodes.{array_node, boolean_lit_node, name_node, null_keyword_node, number_lit_node};
 ghost use Rattle.jsonc_cst.specs.Nodes.{object_node, string_lit_node, word_lit_node};
 ghost use Rattle.jsonc_cst.specs.Tree.{NodesAreTree};
 
 use crate::cst::{
-    CstArray, CstBooleanLit, CstNode, CstNullKeyword, CstNumberLit, CstObject, CstRootNode,
-    CstStringLit, CstWordLit, EditError, ObjectPropName, TypedNode, node_at,
+    CstArray, CstBooleanLit, CstContainerNode, CstLeafNode, CstNode, CstNullKeyword, CstNumberLit,
+    CstObject, CstRootNode, CstStringLit, CstWordLit, EditError, ObjectPropName, TypedNode,
+    node_at,
 };
 use jsonc_layout::input::CstInputValue;
 use jsonc_tree::{Kind, Tree};
@@ -65,6 +67,44 @@ fn replace_with<A: Allocator + Copy, N: TypedNode>(
         return Ok(None);
     };
     Ok(Some(node_at(&doc.tree, new)))
+}
+
+// Whether a node is an array, an object or a literal.
+fn is_value(node: CstNode) -> bool
+    ensures { result ≡ is_value node }
+{
+    match node {
+        CstNode::Container(CstContainerNode::Array(_) | CstContainerNode::Object(_)) => true,
+        CstNode::Leaf(
+            CstLeafNode::BooleanLit(_)
+            | CstLeafNode::NullKeyword(_)
+            | CstLeafNode::NumberLit(_)
+            | CstLeafNode::StringLit(_)
+            | CstLeafNode::WordLit(_),
+        ) => true,
+        _ => false,
+    }
+}
+
+impl CstNode {
+    /// Replaces an array, an object or a literal by a value, and answers the value's node.
+    ///
+    /// [`CstArray::replace_with`] says how. A string or word that is the name of a property is replaced as
+    /// [`ObjectPropName::replace_with`] replaces it. The root, a property, a token, whitespace, a newline or a comment
+    /// is no value: of these the error is `NoSuchPlace`, before anything changes.
+    pub fn replace_with<A: Allocator + Copy>(
+        self,
+        doc: &mut CstRootNode<A>,
+        value: CstInputValue<A>,
+    ) -> Result<Option<CstNode>, EditError>
+        requires { HasNode doc.old self }
+        ensures { IsValueReplacement doc.old doc.new self (plain value) result }
+    {
+        if !is_value(self) {
+            return Err(EditError::NoSuchPlace);
+        }
+        replace_with(doc, self, value)
+    }
 }
 
 impl CstArray {

@@ -59,17 +59,6 @@ fn of_new(replaced: Result<Option<CstNode>, EditError>) -> Outcome {
     }
 }
 
-fn replace<A: Allocator + Copy>(doc: &mut CstRootNode<A>, node: CstNode, word: String<A>) -> Outcome
-    requires { HasNode doc.old node }
-{
-    let value = CstInputValue::Number(word);
-    match node {
-        CstNode::Leaf(CstLeafNode::NumberLit(number)) => of_new(number.replace_with(doc, value)),
-        CstNode::Container(CstContainerNode::Array(row)) => of_new(row.replace_with(doc, value)),
-        _ => Outcome::Other,
-    }
-}
-
 fn remove_value<A: Allocator + Copy>(doc: &mut CstRootNode<A>, property: CstObjectProp) -> Outcome
     requires { HasNode doc.old (object_prop_node property) }
 {
@@ -167,7 +156,7 @@ pub fn edit_node<A: Allocator + Copy>(
     requires { HasNode doc.old node }
 {
     match (edit, node) {
-        (NodeEdit::Replace, _) => replace(doc, node, word),
+        (NodeEdit::Replace, _) => { of_new(node.replace_with(doc, CstInputValue::Number(word))) }
         (NodeEdit::SetFalse, _) => set_false(doc, node),
         (NodeEdit::Remove, _) => Outcome::of_answer(node.remove(doc), &()),
         (NodeEdit::RemoveLeaf, _) => remove_leaf(doc, node),

@@ -8,6 +8,7 @@ pub mod Steps
 pub mod Locations
 pub mod Located
 pub mod Made
+pub mod There
 pub mod Operating
 pub mod Edited
 pub mod Chains

@@ -7,25 +7,22 @@ use Rattle.jsonc_text.specs.Plain.{Plain, collapse}
 use Rattle.jsonc_text.specs.declared.edit.EditError.{EditError}
 use Rattle.jsonc_text.specs.declared.edit.EditError.TheVariants.{NestingDepthExceeded, OutOfMemory}
 use Rattle.jsonc_tree.specs.Building.{Keeps}
-use Rattle.jsonc_tree.specs.Content.{object}
-use Rattle.jsonc_tree.specs.Tree.{Node, content_at}
-use Rattle.jsonc_edit.specs.Paths.{IsAt}
+use Rattle.jsonc_tree.specs.Tree.{Node}
 use Rattle.jsonc_edit.specs.Writing.{IsOfNumbers}
 use Rattle.jsonc_layout.specs.input.Views.{chars_of}
 use Rattle.jsonc_layout.specs.nodes.Siblings.{elements_at}
 use Rattle.jsonc_sound.specs.Documents.{Shows}
-use Rattle.jsonc_run.specs.declared.edit.Edit.{Edit}
-use Rattle.jsonc_run.specs.Edits.{operation_of, unsorted, EditStep}
-use Rattle.jsonc_run.specs.Refusals.{FailsWith}
-use Rattle.jsonc_run.specs.promise.Asked.{EditsTo}
-use Rattle.jsonc_run.specs.promise.Within.{KeepsWithin, StaysWithin}
+use Rattle.jsonc_run.specs.Edits.{PlainEdit}
+use Rattle.jsonc_run.specs.promise.Chains.{NamedRun}
+use Rattle.jsonc_run.specs.promise.Within.{StaysWithin}
+use Rattle.jsonc_run.specs.texts.Edits as texts
 use Rattle.jsonc_cst.specs.declared.cst.CstRootNode.{CstRootNode}
 use Rattle.jsonc_cst.specs.declared.cst.node.CstNode.{CstNode}
 use Rattle.jsonc_cst.specs.Document.{nodes_of, tree_of}
 use Rattle.jsonc_cst.specs.Nodes.{number_of}
 use Rattle.jsonc_parser.specs.patch.Asked.{asked, FitsIn}
 use Rattle.jsonc_parser.specs.patch.Failing.{FindsAnother, GoesIntoItself, HasNoTarget, MeetsTwice, ReferToNothing}
-use Rattle.jsonc_parser.specs.patch.Found.{IsOfShown, RefersToNode, RefersToNothing}
+use Rattle.jsonc_parser.specs.patch.Found.{IsOfShown, RefersToNode}
 use Rattle.jsonc_parser.specs.patch.Operations as value
 use Rattle.jsonc_parser.specs.patch.MadeBy.{IsMadeBy}
 use Rattle.jsonc_parser.specs.patch.Operations.{LeadInOrder, MakesAll, Makes}
@@ -53,12 +50,13 @@ LeadsOn front tokens = (rest : List (List ℕ)) × (tokens ≡ front ++ rest)
 abbrev pub Takes : Document → List (List ℕ) → Plain → Type 0
 Takes d tokens taken = (v : Plain) × RefersTo d.value tokens v × (taken ≡ collapse v)
 
--- The edits by which the operation is made lead from the one document to the other, of the same options, and between their values the operation does. A document within the
--- depth stays so.
-pub record IsMade (A : Type 0) (operation : value.Operation) (d e : Document) : Type 0 where
-  pub edits : List (Edit A)
-  pub own : IsMadeBy d.value operation (map (operation_of unsorted) edits)
-  pub edited : EditsTo d edits e
+-- The edits by which the operation is made lead from the one document to the other, of the same options, each by the operation on texts that it asks for; and between their values
+-- the operation does. A document within the depth stays so.
+pub record IsMade (operation : value.Operation) (d e : Document) : Type 0 where
+  pub edits : List PlainEdit
+  pub ops : List texts.Operation
+  pub own : IsMadeBy d.value operation edits
+  pub edited : NamedRun d edits ops e
   pub options : e.options ≡ d.options
   pub made : Makes operation d.value e.value
   pub within : StaysWithin d e
@@ -75,35 +73,14 @@ module _ {A : Type 0} where
   is_one_edit (Move from path) = false
   is_one_edit other = true
 
-  -- the tokens refer to the node of this path
-  abbrev pub LeadsOver : CstRootNode A → List (List ℕ) → List ℕ → Type 0
-  LeadsOver doc tokens path = (n : ℕ) × IsAt (nodes_of doc) path n × IsOfShown doc (λ d. RefersToNode d (nodes_of doc) tokens n)
-
   -- so it is of whatever document the old one shows, if the numbers that are written fit
   abbrev pub MakesWhatShown : CstRootNode A → value.Operation → (Options → Type 0) → CstRootNode A → Type 0
-  MakesWhatShown old operation Fit new = (d : Document) → Shows d (tree_of old) → Fit d.options → (e : Document) × Shows e (tree_of new) × IsMade A operation d e
+  MakesWhatShown old operation Fit new = (d : Document) → Shows d (tree_of old) → Fit d.options → (e : Document) × Shows e (tree_of new) × IsMade operation d e
 
-  -- the value is added where these tokens lead, of which all but the last refer to the node
-  abbrev pub AddsMember : CstRootNode A → CstNode → List (List ℕ) → List ℕ → Plain → CstRootNode A → Type 0
-  AddsMember old node all last v new =
-      (tokens : List (List ℕ)) → all ≡ tokens ++ last ∷ [] → IsOfShown old (λ d. RefersToNode d (nodes_of old) tokens (number_of node))
-      → MakesWhatShown old (value.add all v) (λ o. IsOfNumbers o v) new
-
-  -- the value is put in the place of the one at the node, where tokens refer to it by a name in an object
-  abbrev pub PutsAt : CstRootNode A → CstNode → Plain → CstRootNode A → Type 0
-  PutsAt old node v new =
-      (n : ℕ) (tokens : List (List ℕ)) (name : List ℕ) → content_at (nodes_of old) n ≡ object → IsOfShown old (λ d. RefersToNode d (nodes_of old) tokens n)
-      → IsOfShown old (λ d. RefersToNode d (nodes_of old) (tokens ++ name ∷ []) (number_of node)) → MakesWhatShown old (value.add (tokens ++ name ∷ []) v) (λ o. IsOfNumbers o v) new
-
-  -- the member is inserted into the object, where tokens refer to it and to nothing with the name after them
-  abbrev pub AppendsTo : CstRootNode A → CstNode → List ℕ → Plain → CstRootNode A → Type 0
-  AppendsTo old node name v new =
-      (tokens : List (List ℕ)) → IsOfShown old (λ d. RefersToNode d (nodes_of old) tokens (number_of node)) → IsOfShown old (λ d. RefersToNothing d (tokens ++ name ∷ []))
-      → MakesWhatShown old (value.add (tokens ++ name ∷ []) v) (λ o. IsOfNumbers o v) new
-
-  -- the edit was made, after which a document within the depth is so
-  abbrev pub IsEditDone : CstRootNode A → Edit A → CstRootNode A → Type 0
-  IsEditDone old edit new = EditStep (nodes_of old) (operation_of unsorted edit) (nodes_of new) × KeepsWithin (nodes_of old) (operation_of unsorted edit) (nodes_of new)
+  -- the value is added where tokens that refer to the node lead with this one after them
+  abbrev pub AddsMember : CstRootNode A → CstNode → List ℕ → Plain → CstRootNode A → Type 0
+  AddsMember old node last v new =
+      (tokens : List (List ℕ)) → IsOfShown old (λ d. RefersToNode d (nodes_of old) tokens (number_of node)) → MakesWhatShown old (value.add (tokens ++ last ∷ []) v) (λ o. IsOfNumbers o v) new
 
   -- there was no memory
   abbrev pub IsNoMemory : PatchCause A → Type 0
@@ -139,24 +116,10 @@ module _ {A : Type 0} where
   abbrev pub FailsWhatShown : CstRootNode A → value.Operation → PatchCause A → Type 0
   FailsWhatShown doc operation cause = IsOfShown doc (λ d. IsCause operation d.value cause)
 
-  -- why no path of a node was answered: it has none
-  abbrev pub IsPathless : CstRootNode A → CstNode → PatchCause A → Type 0
-  IsPathless doc node causes.NoTarget = (path : List ℕ) → IsAt (nodes_of doc) path (number_of node) → ⊥
-  IsPathless doc node cause = IsNoMemory cause
-
-  -- why an edit was refused
-  abbrev pub IsRefusal : CstRootNode A → Edit A → PatchCause A → Type 0
-  IsRefusal doc edit (causes.Edit why) = FailsWith (nodes_of doc) (operation_of unsorted edit) why
-  IsRefusal doc edit cause = ⊥
-
-  -- why the value was not added where these tokens lead, of which all but the last refer to the node
-  abbrev pub FailsBelow : CstRootNode A → CstNode → List (List ℕ) → List ℕ → Plain → PatchCause A → Type 0
-  FailsBelow doc node all last v cause =
-      (tokens : List (List ℕ)) → all ≡ tokens ++ last ∷ [] → IsOfShown doc (λ d. RefersToNode d (nodes_of doc) tokens (number_of node)) → FailsWhatShown doc (value.add all v) cause
-
-  -- if tokens refer to the node, then only as an edit is refused that has its place
-  abbrev pub FailsForMemory : CstRootNode A → CstNode → PatchCause A → Type 0
-  FailsForMemory doc node cause = (tokens : List (List ℕ)) → IsOfShown doc (λ d. RefersToNode d (nodes_of doc) tokens (number_of node)) → IsOfShown doc (λ d. IsUnedited cause)
+  -- why it was not added
+  abbrev pub FailsBelow : CstRootNode A → CstNode → List ℕ → Plain → PatchCause A → Type 0
+  FailsBelow doc node last v cause =
+      (tokens : List (List ℕ)) → IsOfShown doc (λ d. RefersToNode d (nodes_of doc) tokens (number_of node)) → FailsWhatShown doc (value.add (tokens ++ last ∷ []) v) cause
 
   -- the document, and each node that was there, is as it was
   pub record IsKept (old new : CstRootNode A) : Type 0 where
@@ -166,7 +129,7 @@ module _ {A : Type 0} where
   -- The operations lead from the one document to the other, of the same options: each, by its own edits, from the document that the one before it made to the next. So they lead
   -- from the value of the one to that of the other. A document within the depth stays so.
   pub record IsPatched (d : Document) (operations : List (Operation A)) (e : Document) : Type 0 where
-    pub steps : LeadInOrder (IsMade A) (map asked operations) d e
+    pub steps : LeadInOrder IsMade (map asked operations) d e
     pub options : e.options ≡ d.options
     pub made : MakesAll (map asked operations) d.value e.value
     pub within : StaysWithin d e

@@ -32,16 +32,16 @@ pub data IsPlace (w : Option Plain) : List (List ℕ) → Type 0 where
   in_object : {tokens : List (List ℕ)} (name : List ℕ) → RefersToObject w tokens → IsPlace w (tokens ++ name ∷ [])
 
 -- what the tokens refer to is removed, if they refer to something
-abbrev pub Drops : Type 0 → List (List ℕ) → Document → Document → Type 0
-Drops A tokens d e = IsMade A (remove tokens) d e ⊎ (ReferToNothing d.value tokens × (e ≡ d))
+abbrev pub Drops : List (List ℕ) → Document → Document → Type 0
+Drops tokens d e = IsMade (remove tokens) d e ⊎ (ReferToNothing d.value tokens × (e ≡ d))
 
 -- where the patch does not go into the value, it is merged
-abbrev pub Sets : Type 0 → List (List ℕ) → Plain → Document → Document → Type 0
-Sets A tokens p d e = ¬ (GoesInto p tokens d.value) → MergesIn A tokens p d e
+abbrev pub Sets : List (List ℕ) → Plain → Document → Document → Type 0
+Sets tokens p d e = ¬ (GoesInto p tokens d.value) → MergesIn tokens p d e
 
 -- null drops the value, and any other patch is merged
-abbrev pub MergesNamed : Type 0 → List (List ℕ) → Plain → Document → Document → Type 0
-MergesNamed A tokens p d e = (p ≡ null → Drops A tokens d e) × (p ≢ null → MergesIn A tokens p d e)
+abbrev pub MergesNamed : List (List ℕ) → Plain → Document → Document → Type 0
+MergesNamed tokens p d e = (p ≡ null → Drops tokens d e) × (p ≢ null → MergesIn tokens p d e)
 
 -- so the one document leads to the other, of the same options; and a document within the depth stays so
 pub record IsReached (d : Document) (Leads : Document → Document → Type 0) (e : Document) : Type 0 where

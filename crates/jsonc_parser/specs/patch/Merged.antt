@@ -16,15 +16,15 @@ use Rattle.jsonc_parser.specs.declared.patch.merging.MergeFault.{MergeFault}
 use Rattle.jsonc_parser.specs.declared.patch.merging.MergeFault.TheVariants.{RepeatedName, NestingDepthExceeded, OutOfMemory}
 
 -- merging, of documents: what is removed and what is added is so by the edits of a patch that does this alone
-abbrev pub MergesIn : Type 0 → List (List ℕ) → Plain → Document → Document → Type 0
-MergesIn A tokens p d e = MergesBy (λ (x : Document). x.value) (IsMade A) tokens p d e
+abbrev pub MergesIn : List (List ℕ) → Plain → Document → Document → Type 0
+MergesIn tokens p d e = MergesBy (λ (x : Document). x.value) IsMade tokens p d e
 
-abbrev pub MembersMergeIn : Type 0 → List (List ℕ) → Members → Document → Document → Type 0
-MembersMergeIn A tokens ms d e = MembersMergeBy (λ (x : Document). x.value) (IsMade A) tokens ms d e
+abbrev pub MembersMergeIn : List (List ℕ) → Members → Document → Document → Type 0
+MembersMergeIn tokens ms d e = MembersMergeBy (λ (x : Document). x.value) IsMade tokens ms d e
 
 -- Merging leads from the one document to the other, of the same options, and so between their values, at the whole. A document within the depth stays so.
-pub record IsMerged (A : Type 0) (d : Document) (p : Plain) (e : Document) : Type 0 where
-  pub steps : MergesIn A [] p d e
+pub record IsMerged (d : Document) (p : Plain) (e : Document) : Type 0 where
+  pub steps : MergesIn [] p d e
   pub options : e.options ≡ d.options
   pub merged : Merges [] p d.value e.value
   pub within : StaysWithin d e
@@ -32,7 +32,7 @@ pub record IsMerged (A : Type 0) (d : Document) (p : Plain) (e : Document) : Typ
 module _ {A : Type 0} where
   -- so it is of whatever document the old one shows, if the numbers of the patch fit
   abbrev pub MergesWhatShown : CstRootNode A → Plain → CstRootNode A → Type 0
-  MergesWhatShown old p new = (d : Document) → Shows d (tree_of old) → IsOfNumbers d.options p → (e : Document) × Shows e (tree_of new) × IsMerged A d p e
+  MergesWhatShown old p new = (d : Document) → Shows d (tree_of old) → IsOfNumbers d.options p → (e : Document) × Shows e (tree_of new) × IsMerged d p e
 
   -- a name occurs twice in an object of the patch, or where it is looked up in the document
   abbrev pub IsMergeFault : Plain → Document → MergeFault A → Type 0

@@ -1,20 +1,7 @@
 -- How many bytes may be added to a document before its text can have more than are allowed.
-use Rattle.std.specs.Prelude.{◌≡◌, ◌<◌, ◌≤◌, ◌+◌, ℕ, zero, suc, Bool, true, false, List, length, Option, IfSome}
+use Rattle.std.specs.Prelude.{◌≡◌, ◌<◌, ◌≤◌, ◌+◌, ℕ, zero, suc, List, length, Option, IfSome}
 use Rattle.jsonc_tree.specs.Order.{text_at}
 use Rattle.jsonc_tree.specs.Tree.{Node, content_at}
-use Rattle.jsonc_run.specs.declared.edit.Edit.{Edit}
-use Rattle.jsonc_run.specs.declared.edit.Edit.TheVariants.{Replace, Remove, SetRoot, InsertElement, AppendElement, AppendProperty, RenameProperty}
-
--- the edits by which operations are made
-abbrev pub is_of_operation : {A : Type 0} → Edit A → Bool
-is_of_operation (Replace path value) = true
-is_of_operation (Remove path) = true
-is_of_operation (SetRoot value) = true
-is_of_operation (InsertElement path index value) = true
-is_of_operation (AppendElement path value) = true
-is_of_operation (AppendProperty path name value) = true
-is_of_operation (RenameProperty path name) = true
-is_of_operation edit = false
 
 -- each node that was there is what it was; there may be new ones
 pub record KeepsContents (old new : List Node) : Type 0 where

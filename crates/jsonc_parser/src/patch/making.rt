@@ -2,33 +2,29 @@
 
 ghost use Rattle.std.specs.Prelude.{◌≡◌, [], chars, true, IfErr, IfOk, OnErr, OnOk, Some};
 ghost use Rattle.jsonc_tree.specs.Content.{Content};
-ghost use Rattle.jsonc_edit.specs.Paths.{IsAt};
 ghost use Rattle.jsonc_edit.specs.Writing.{IsOfNumbers};
 ghost use Rattle.jsonc_layout.specs.input.Views.{plain};
-ghost use Rattle.jsonc_run.specs.Edits.{is_whole};
 ghost use Rattle.jsonc_cst.specs.Document.{content_of, nodes_of, HasNode};
 ghost use Rattle.jsonc_cst.specs.Nodes.{number_of};
 ghost use Rattle.jsonc_parser.specs.paths.Found.{names_of};
-ghost use Rattle.jsonc_parser.specs.patch.Applied.{is_one_edit, AddsMember, AppendsTo, FailsBelow, FailsForMemory};
-ghost use Rattle.jsonc_parser.specs.patch.Applied.{FailsWhatShown, IsEditDone, IsKept, IsPathless, IsRefusal, IsUnfound};
-ghost use Rattle.jsonc_parser.specs.patch.Applied.{HasCause, LeadsOver, MakesWhatShown, PutsAt, Takes};
+ghost use Rattle.jsonc_parser.specs.patch.Applied.{is_one_edit, AddsMember, FailsBelow, FailsWhatShown, HasCause};
+ghost use Rattle.jsonc_parser.specs.patch.Applied.{IsKept, IsUnfound, MakesWhatShown, Takes};
 ghost use Rattle.jsonc_parser.specs.patch.Asked.{asked, FitsIn};
 ghost use Rattle.jsonc_parser.specs.patch.FaultMessages.{patch_cause_text};
 ghost use Rattle.jsonc_parser.specs.patch.Found.{IsOfShown, RefersToNode};
 ghost use Rattle.jsonc_parser.specs.patch.Operations as standard;
 ghost use Rattle.jsonc_parser.specs.patch.Pointer.{tokens_of};
 ghost use Rattle.jsonc_parser.specs.patch.References.{RefersTo};
-ghost use Rattle.jsonc_parser.specs.patch.Room.{is_of_operation, KeepsContents};
+ghost use Rattle.jsonc_parser.specs.patch.Room.{KeepsContents};
 
 use super::equality::{Numbers, are_equal};
 use super::moving::{copy_value, move_value};
 use super::operation::Operation;
 use super::pointer::Pointer;
 use super::quoting::write_repeated_name;
-use super::reference::{FindError, element_place, follow, read};
+use super::reference::{FindError, element_place, follow, member, read};
 use super::taking::take;
 use jsonc_cst::cst::{CstInputValue, CstNode, CstRootNode, EditError, TypedNode};
-use jsonc_run::Edit;
 use std::alloc::Allocator;
 use std::fmt;
 
@@ -78,15 +74,9 @@ pub(super) fn make<A: Allocator + Copy>(
     ensures fails { IfErr result (FailsWhatShown doc.old (asked operation.now)) }
 {
     match operation {
-        Operation::Add(path, value) => match value.try_clone() {
-            Ok(value) => add(doc, path, value),
-            Err(_) => Err(PatchCause::Edit(EditError::OutOfMemory)),
-        },
+        Operation::Add(path, value) => add(doc, path, value),
         Operation::Remove(path) => remove(doc, path),
-        Operation::Replace(path, value) => match value.try_clone() {
-            Ok(value) => replace(doc, path, value),
-            Err(_) => Err(PatchCause::Edit(EditError::OutOfMemory)),
-        },
+        Operation::Replace(path, value) => replace(doc, path, value),
         Operation::Move(from, path) => move_value(doc, from, path),
         Operation::Copy(from, path) => copy_value(doc, from, path),
         Operation::Test(path, value) => test(doc, path, value),
@@ -117,40 +107,6 @@ pub(super) fn target<A: Allocator + Copy>(
         Ok(Some(node)) => Ok(node),
         Ok(None) => Err(PatchCause::NoTarget),
         Err(error) => Err(cause_of(error)),
-    }
-}
-
-// The path of a node.
-pub(super) fn path_to<A: Allocator + Copy>(
-    doc: &CstRootNode<A>,
-    node: CstNode,
-) -> Result<Vec<usize, A>, PatchCause<A>>
-    requires { HasNode doc.now node }
-    ensures at { IfOk result (λ path. IsAt (nodes_of doc.now) path.items (number_of node)) }
-    ensures fails { IfErr result (IsPathless doc.now node) }
-{
-    match doc.path(node) {
-        Ok(Some(path)) => Ok(path),
-        Ok(None) => Err(PatchCause::NoTarget),
-        Err(error) => Err(PatchCause::Edit(error)),
-    }
-}
-
-// The path of the value that a pointer refers to.
-fn target_path<A: Allocator + Copy>(
-    doc: &CstRootNode<A>,
-    pointer: &Pointer<A>,
-) -> Result<Vec<usize, A>, PatchCause<A>>
-    ensures over { IfOk result (λ path. LeadsOver doc.now (tokens_of pointer.now) path.items) }
-    ensures fails { IfErr result (λ cause. IsOfShown doc.now (λ d. IsUnfound d.value (tokens_of pointer.now) cause)) }
-{
-    let node = match target(doc, pointer.tokens()) {
-        Ok(node) => node,
-        Err(cause) => return Err(cause),
-    };
-    match path_to(doc, node) {
-        Ok(path) => Ok(path),
-        Err(cause) => Err(cause),
     }
 }
 
@@ -188,24 +144,6 @@ pub(super) fn whole_at<A: Allocator + Copy>(
     }
 }
 
-// Makes one edit, whole or not at all.
-pub(super) fn edit<A: Allocator + Copy>(
-    doc: &mut CstRootNode<A>,
-    edit: Edit<A>,
-) -> Result<(), PatchCause<A>>
-    requires whole { is_whole edit ≡ true }
-    requires operation { is_of_operation edit ≡ true }
-    ensures made { OnOk result (IsEditDone doc.old edit doc.new) }
-    ensures contents { OnOk result (KeepsContents (nodes_of doc.old) (nodes_of doc.new)) }
-    ensures kept { OnErr result (IsKept doc.old doc.new) }
-    ensures fails { IfErr result (IsRefusal doc.old edit) }
-{
-    match doc.make(&edit) {
-        Ok(()) => Ok(()),
-        Err(error) => Err(PatchCause::Edit(error)),
-    }
-}
-
 // Removes the value that a pointer refers to.
 pub(super) fn remove<A: Allocator + Copy>(
     doc: &mut CstRootNode<A>,
@@ -216,13 +154,13 @@ pub(super) fn remove<A: Allocator + Copy>(
     ensures kept { OnErr result (IsKept doc.old doc.new) }
     ensures fails { IfErr result (FailsWhatShown doc.old (standard.remove (tokens_of pointer.now))) }
 {
-    let path = match target_path(doc, pointer) {
-        Ok(path) => path,
+    let node = match target(doc, pointer.tokens()) {
+        Ok(node) => node,
         Err(cause) => return Err(cause),
     };
-    match edit(doc, Edit::Remove(path)) {
+    match doc.remove_there(node) {
         Ok(()) => Ok(()),
-        Err(cause) => Err(cause),
+        Err(error) => Err(PatchCause::Edit(error)),
     }
 }
 
@@ -230,37 +168,37 @@ pub(super) fn remove<A: Allocator + Copy>(
 fn replace<A: Allocator + Copy>(
     doc: &mut CstRootNode<A>,
     pointer: &Pointer<A>,
-    value: CstInputValue<A>,
+    value: &CstInputValue<A>,
 ) -> Result<(), PatchCause<A>>
     ensures made { OnOk result
-        (MakesWhatShown doc.old (standard.replace (tokens_of pointer.now) (plain value)) (λ o. IsOfNumbers o (plain value)) doc.new) }
+        (MakesWhatShown doc.old (standard.replace (tokens_of pointer.now) (plain value.now)) (λ o. IsOfNumbers o (plain value.now)) doc.new) }
     ensures contents { OnOk result (KeepsContents (nodes_of doc.old) (nodes_of doc.new)) }
     ensures kept { OnErr result (IsKept doc.old doc.new) }
-    ensures fails { IfErr result (FailsWhatShown doc.old (standard.replace (tokens_of pointer.now) (plain value))) }
+    ensures fails { IfErr result (FailsWhatShown doc.old (standard.replace (tokens_of pointer.now) (plain value.now))) }
 {
-    let path = match target_path(doc, pointer) {
-        Ok(path) => path,
+    let node = match target(doc, pointer.tokens()) {
+        Ok(node) => node,
         Err(cause) => return Err(cause),
     };
-    match edit(doc, Edit::Replace(path, value)) {
+    match doc.replace_there(node, value) {
         Ok(()) => Ok(()),
-        Err(cause) => Err(cause),
+        Err(error) => Err(PatchCause::Edit(error)),
     }
 }
 
 // Sets the document's value.
 fn add_whole<A: Allocator + Copy>(
     doc: &mut CstRootNode<A>,
-    value: CstInputValue<A>,
+    value: &CstInputValue<A>,
 ) -> Result<(), PatchCause<A>>
-    ensures made { OnOk result (MakesWhatShown doc.old (standard.add [] (plain value)) (λ o. IsOfNumbers o (plain value)) doc.new) }
+    ensures made { OnOk result (MakesWhatShown doc.old (standard.add [] (plain value.now)) (λ o. IsOfNumbers o (plain value.now)) doc.new) }
     ensures contents { OnOk result (KeepsContents (nodes_of doc.old) (nodes_of doc.new)) }
     ensures kept { OnErr result (IsKept doc.old doc.new) }
-    ensures fails { IfErr result (FailsWhatShown doc.old (standard.add [] (plain value))) }
+    ensures fails { IfErr result (FailsWhatShown doc.old (standard.add [] (plain value.now))) }
 {
-    match edit(doc, Edit::SetRoot(value)) {
+    match doc.set_root_there(value) {
         Ok(()) => Ok(()),
-        Err(cause) => Err(cause),
+        Err(error) => Err(PatchCause::Edit(error)),
     }
 }
 
@@ -268,13 +206,13 @@ fn add_whole<A: Allocator + Copy>(
 pub(super) fn add<A: Allocator + Copy>(
     doc: &mut CstRootNode<A>,
     pointer: &Pointer<A>,
-    value: CstInputValue<A>,
+    value: &CstInputValue<A>,
 ) -> Result<(), PatchCause<A>>
     ensures made { OnOk result
-        (MakesWhatShown doc.old (standard.add (tokens_of pointer.now) (plain value)) (λ o. IsOfNumbers o (plain value)) doc.new) }
+        (MakesWhatShown doc.old (standard.add (tokens_of pointer.now) (plain value.now)) (λ o. IsOfNumbers o (plain value.now)) doc.new) }
     ensures contents { OnOk result (KeepsContents (nodes_of doc.old) (nodes_of doc.new)) }
     ensures kept { OnErr result (IsKept doc.old doc.new) }
-    ensures fails { IfErr result (FailsWhatShown doc.old (standard.add (tokens_of pointer.now) (plain value))) }
+    ensures fails { IfErr result (FailsWhatShown doc.old (standard.add (tokens_of pointer.now) (plain value.now))) }
 {
     let Some((last, front)) = pointer.tokens().split_last() else {
         return match add_whole(doc, value) {
@@ -286,31 +224,30 @@ pub(super) fn add<A: Allocator + Copy>(
         Ok(container) => container,
         Err(cause) => return Err(cause),
     };
-    match add_below(doc, container, pointer, last, value) {
+    match add_below(doc, container, last, value) {
         Ok(()) => Ok(()),
         Err(cause) => Err(cause),
     }
 }
 
-// Adds a value where the last token of a pointer leads from a node.
+// Adds a value where a token leads from a node.
 fn add_below<A: Allocator + Copy>(
     doc: &mut CstRootNode<A>,
     container: CstNode,
-    pointer: &Pointer<A>,
     token: &str,
-    value: CstInputValue<A>,
+    value: &CstInputValue<A>,
 ) -> Result<(), PatchCause<A>>
     requires { HasNode doc.old container }
-    ensures made { OnOk result (AddsMember doc.old container (tokens_of pointer.now) (chars token.now) (plain value) doc.new) }
+    ensures made { OnOk result (AddsMember doc.old container (chars token.now) (plain value.now) doc.new) }
     ensures contents { OnOk result (KeepsContents (nodes_of doc.old) (nodes_of doc.new)) }
     ensures kept { OnErr result (IsKept doc.old doc.new) }
-    ensures fails { IfErr result (FailsBelow doc.old container (tokens_of pointer.now) (chars token.now) (plain value)) }
+    ensures fails { IfErr result (FailsBelow doc.old container (chars token.now) (plain value.now)) }
 {
     if container.as_array().is_some() {
-        return add_element(doc, container, pointer, token, value);
+        return add_element(doc, container, token, value);
     }
     if container.as_object().is_some() {
-        return add_member(doc, container, pointer, token, value);
+        return add_member(doc, container, token, value);
     }
     Err(PatchCause::NoTarget)
 }
@@ -319,32 +256,27 @@ fn add_below<A: Allocator + Copy>(
 fn add_element<A: Allocator + Copy>(
     doc: &mut CstRootNode<A>,
     array: CstNode,
-    pointer: &Pointer<A>,
     token: &str,
-    value: CstInputValue<A>,
+    value: &CstInputValue<A>,
 ) -> Result<(), PatchCause<A>>
     requires in_document { HasNode doc.old array }
     requires array { content_of doc.old array ≡ Content.array }
-    ensures made { OnOk result (AddsMember doc.old array (tokens_of pointer.now) (chars token.now) (plain value) doc.new) }
+    ensures made { OnOk result (AddsMember doc.old array (chars token.now) (plain value.now) doc.new) }
     ensures contents { OnOk result (KeepsContents (nodes_of doc.old) (nodes_of doc.new)) }
     ensures kept { OnErr result (IsKept doc.old doc.new) }
-    ensures fails { IfErr result (FailsBelow doc.old array (tokens_of pointer.now) (chars token.now) (plain value)) }
+    ensures fails { IfErr result (FailsBelow doc.old array (chars token.now) (plain value.now)) }
 {
     let Some(place) = element_place(doc, array.number(), token) else {
         return Err(PatchCause::NoTarget);
     };
-    let path = match path_to(doc, array) {
-        Ok(path) => path,
-        Err(cause) => return Err(cause),
-    };
     match place {
-        Some(index) => match edit(doc, Edit::InsertElement(path, index, value)) {
+        Some(index) => match doc.insert_element_there(array, index, value) {
             Ok(()) => Ok(()),
-            Err(cause) => Err(cause),
+            Err(error) => Err(PatchCause::Edit(error)),
         },
-        None => match edit(doc, Edit::AppendElement(path, value)) {
+        None => match doc.append_element_there(array, value) {
             Ok(()) => Ok(()),
-            Err(cause) => Err(cause),
+            Err(error) => Err(PatchCause::Edit(error)),
         },
     }
 }
@@ -353,70 +285,26 @@ fn add_element<A: Allocator + Copy>(
 fn add_member<A: Allocator + Copy>(
     doc: &mut CstRootNode<A>,
     object: CstNode,
-    pointer: &Pointer<A>,
     name: &str,
-    value: CstInputValue<A>,
+    value: &CstInputValue<A>,
 ) -> Result<(), PatchCause<A>>
     requires in_document { HasNode doc.old object }
     requires object { content_of doc.old object ≡ Content.object }
-    ensures made { OnOk result (AddsMember doc.old object (tokens_of pointer.now) (chars name.now) (plain value) doc.new) }
+    ensures made { OnOk result (AddsMember doc.old object (chars name.now) (plain value.now) doc.new) }
     ensures contents { OnOk result (KeepsContents (nodes_of doc.old) (nodes_of doc.new)) }
     ensures kept { OnErr result (IsKept doc.old doc.new) }
-    ensures fails { IfErr result (FailsBelow doc.old object (tokens_of pointer.now) (chars name.now) (plain value)) }
+    ensures fails { IfErr result (FailsBelow doc.old object (chars name.now) (plain value.now)) }
 {
-    match follow(doc, pointer.tokens()) {
-        Ok(Some(node)) => put_value(doc, node, value),
-        Ok(None) => append_member(doc, object, name, value),
+    match member(doc, object, name) {
+        Ok(Some(node)) => match doc.replace_there(node, value) {
+            Ok(()) => Ok(()),
+            Err(error) => Err(PatchCause::Edit(error)),
+        },
+        Ok(None) => match doc.append_property_there(object, name, value) {
+            Ok(()) => Ok(()),
+            Err(error) => Err(PatchCause::Edit(error)),
+        },
         Err(error) => Err(cause_of(error)),
-    }
-}
-
-// Replaces the value of a member.
-fn put_value<A: Allocator + Copy>(
-    doc: &mut CstRootNode<A>,
-    node: CstNode,
-    value: CstInputValue<A>,
-) -> Result<(), PatchCause<A>>
-    requires { HasNode doc.old node }
-    ensures made { OnOk result (PutsAt doc.old node (plain value) doc.new) }
-    ensures contents { OnOk result (KeepsContents (nodes_of doc.old) (nodes_of doc.new)) }
-    ensures kept { OnErr result (IsKept doc.old doc.new) }
-    ensures fails { IfErr result (FailsForMemory doc.old node) }
-{
-    let path = match path_to(doc, node) {
-        Ok(path) => path,
-        Err(cause) => return Err(cause),
-    };
-    match edit(doc, Edit::Replace(path, value)) {
-        Ok(()) => Ok(()),
-        Err(cause) => Err(cause),
-    }
-}
-
-// Appends a member to an object.
-fn append_member<A: Allocator + Copy>(
-    doc: &mut CstRootNode<A>,
-    object: CstNode,
-    name: &str,
-    value: CstInputValue<A>,
-) -> Result<(), PatchCause<A>>
-    requires in_document { HasNode doc.old object }
-    requires object { content_of doc.old object ≡ Content.object }
-    ensures made { OnOk result (AppendsTo doc.old object (chars name.now) (plain value) doc.new) }
-    ensures contents { OnOk result (KeepsContents (nodes_of doc.old) (nodes_of doc.new)) }
-    ensures kept { OnErr result (IsKept doc.old doc.new) }
-    ensures fails { IfErr result (FailsForMemory doc.old object) }
-{
-    let path = match path_to(doc, object) {
-        Ok(path) => path,
-        Err(cause) => return Err(cause),
-    };
-    let Ok(name) = String::from_str(*doc.allocator(), name) else {
-        return Err(PatchCause::Edit(EditError::OutOfMemory));
-    };
-    match edit(doc, Edit::AppendProperty(path, name, value)) {
-        Ok(()) => Ok(()),
-        Err(cause) => Err(cause),
     }
 }
 

@@ -130,7 +130,7 @@ fn set_value<A: Allocator + Copy>(
     patch: &CstInputValue<A>,
 ) -> Result<(), PatchCause<A>>
     ensures set { OnOk result
-        (ReachesWhatShown doc.old (λ o. IsOfNumbers o (plain patch.now)) (Sets A (tokens_of pointer.now) (plain patch.now)) doc.new) }
+        (ReachesWhatShown doc.old (λ o. IsOfNumbers o (plain patch.now)) (Sets (tokens_of pointer.now) (plain patch.now)) doc.new) }
     ensures fails { IfErr result (FailsToSet doc.old (tokens_of pointer.now)) }
 {
     let Ok(new) = made_value(*doc.allocator(), patch) else {
@@ -138,7 +138,7 @@ fn set_value<A: Allocator + Copy>(
     };
     match is_there(doc, pointer, &new) {
         Ok(true) => Ok(()),
-        Ok(false) => match add(doc, pointer, new) {
+        Ok(false) => match add(doc, pointer, &new) {
             Ok(()) => Ok(()),
             Err(cause) => Err(cause),
         },
@@ -151,7 +151,7 @@ fn drop_value<A: Allocator + Copy>(
     doc: &mut CstRootNode<A>,
     pointer: &Pointer<A>,
 ) -> Result<(), PatchCause<A>>
-    ensures dropped { OnOk result (ReachesWhatShown doc.old (λ o. Unit {0}) (Drops A (tokens_of pointer.now)) doc.new) }
+    ensures dropped { OnOk result (ReachesWhatShown doc.old (λ o. Unit {0}) (Drops (tokens_of pointer.now)) doc.new) }
     ensures fails { IfErr result (λ cause. IsOfShown doc.old (λ d. IsTwice d.value (tokens_of pointer.now) cause)) }
 {
     match remove(doc, pointer) {
@@ -169,7 +169,7 @@ fn merge_value<A: Allocator + Copy>(
     patch: &CstInputValue<A>,
 ) -> Result<(), PatchCause<A>>
     ensures merged { OnOk result
-        (ReachesWhatShown doc.old (λ o. IsOfNumbers o (plain patch.now)) (MergesIn A (tokens_of pointer.old) (plain patch.now)) doc.new) }
+        (ReachesWhatShown doc.old (λ o. IsOfNumbers o (plain patch.now)) (MergesIn (tokens_of pointer.old) (plain patch.now)) doc.new) }
     ensures pointer { OnOk result (tokens_of pointer.new ≡ tokens_of pointer.old) }
     ensures fails { IfErr result (FailsToMerge doc.old (tokens_of pointer.old) (plain patch.now)) }
 {
@@ -188,7 +188,7 @@ fn merge_object<A: Allocator + Copy>(
     patch: &CstInputValue<A>,
 ) -> Result<(), PatchCause<A>>
     ensures merged { OnOk result (plain patch.now ≡ object (members_plain members.now)
-        → ReachesWhatShown doc.old (λ o. IsOfNumbers o (plain patch.now)) (MergesIn A (tokens_of pointer.old) (plain patch.now)) doc.new) }
+        → ReachesWhatShown doc.old (λ o. IsOfNumbers o (plain patch.now)) (MergesIn (tokens_of pointer.old) (plain patch.now)) doc.new) }
     ensures pointer { OnOk result (tokens_of pointer.new ≡ tokens_of pointer.old) }
     ensures fails { IfErr result (λ cause. plain patch.now ≡ object (members_plain members.now)
         → FailsToMerge doc.old (tokens_of pointer.old) (plain patch.now) cause) }
@@ -208,7 +208,7 @@ fn merge_named<A: Allocator + Copy>(
     patch: &CstInputValue<A>,
 ) -> Result<(), PatchCause<A>>
     ensures merged { OnOk result
-        (ReachesWhatShown doc.old (λ o. IsOfNumbers o (plain patch.now)) (MergesNamed A (tokens_of pointer.old) (plain patch.now)) doc.new) }
+        (ReachesWhatShown doc.old (λ o. IsOfNumbers o (plain patch.now)) (MergesNamed (tokens_of pointer.old) (plain patch.now)) doc.new) }
     ensures pointer { OnOk result (tokens_of pointer.new ≡ tokens_of pointer.old) }
     ensures fails { IfErr result (FailsToMerge doc.old (tokens_of pointer.old) (plain patch.now)) }
 {
@@ -228,7 +228,7 @@ fn merge_member<A: Allocator + Copy>(
 ) -> Result<(), PatchCause<A>>
     ensures merged { OnOk result
         (ReachesWhatShown doc.old (λ o. IsOfNumbers o (plain patch.now))
-        (MembersMergeIn A (tokens_of pointer.old) (member (chars_of name.now) (plain patch.now) no_members)) doc.new) }
+        (MembersMergeIn (tokens_of pointer.old) (member (chars_of name.now) (plain patch.now) no_members)) doc.new) }
     ensures pointer { OnOk result (tokens_of pointer.new ≡ tokens_of pointer.old) }
     ensures fails { IfErr result (FailsToMerge doc.old (tokens_of pointer.old ++ chars_of name.now ∷ []) (plain patch.now)) }
 {
@@ -254,7 +254,7 @@ fn merge_members<A: Allocator + Copy>(
     members: &[(String<A>, CstInputValue<A>)],
 ) -> Result<(), PatchCause<A>>
     ensures merged { OnOk result
-        (ReachesWhatShown doc.old (λ o. AreNamedOfNumbers o (members_plain members.now)) (MembersMergeIn A (tokens_of pointer.old) (members_plain members.now)) doc.new) }
+        (ReachesWhatShown doc.old (λ o. AreNamedOfNumbers o (members_plain members.now)) (MembersMergeIn (tokens_of pointer.old) (members_plain members.now)) doc.new) }
     ensures pointer { OnOk result (tokens_of pointer.new ≡ tokens_of pointer.old) }
     ensures fails { IfErr result (FailsToMergeAll doc.old (tokens_of pointer.old) (members_plain members.now)) }
 {

@@ -91,7 +91,7 @@ pub(super) fn move_value<A: Allocator + Copy>(
         Ok(()) => {}
         Err(cause) => return Err(cause),
     }
-    match add(doc, path, value) {
+    match add(doc, path, &value) {
         Ok(()) => Ok(()),
         Err(cause) => Err(cause),
     }
@@ -112,7 +112,7 @@ pub(super) fn copy_value<A: Allocator + Copy>(
         Ok(value) => value,
         Err(cause) => return Err(cause),
     };
-    match add(doc, path, value) {
+    match add(doc, path, &value) {
         Ok(()) => Ok(()),
         Err(cause) => Err(cause),
     }

@@ -114,7 +114,7 @@ fn repeated<A: Allocator>(alloc: A, name: &str) -> FindError<A>
 }
 
 // The value of the one property of a name in an object.
-fn member<A: Allocator + Copy>(
+pub(super) fn member<A: Allocator + Copy>(
     doc: &CstRootNode<A>,
     node: CstNode,
     name: &str,

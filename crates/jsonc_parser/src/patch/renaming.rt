@@ -12,13 +12,12 @@ ghost use Rattle.jsonc_parser.specs.patch.Pointer.{tokens_of};
 ghost use Rattle.jsonc_parser.specs.patch.Renaming.{AreBeside, FailsToRename, IsRenaming, RenamesAt};
 ghost use Rattle.jsonc_parser.specs.patch.Room.{KeepsContents};
 
-use super::making::{PatchCause, edit, path_to, target};
+use super::making::{PatchCause, target};
 use super::merging::is_object;
 use super::moving::leads_on;
 use super::pointer::Pointer;
 use super::reference::{FindError, follow};
 use jsonc_cst::cst::{CstNode, CstRootNode, EditError};
-use jsonc_run::Edit;
 use std::alloc::Allocator;
 
 // All tokens of two pointers but the last, if they are the same, and the last of the second.
@@ -87,15 +86,8 @@ pub(super) fn rename<A: Allocator + Copy>(
     ensures contents { OnOk result (KeepsContents (nodes_of doc.old) (nodes_of doc.new)) }
     ensures fails { IfErr result (FailsToRename doc.old node (chars_of name.now)) }
 {
-    let path = match path_to(doc, node) {
-        Ok(path) => path,
-        Err(cause) => return Err(cause),
-    };
-    let Ok(name) = name.clone() else {
-        return Err(PatchCause::Edit(EditError::OutOfMemory));
-    };
-    match edit(doc, Edit::RenameProperty(path, name)) {
+    match doc.rename_there(node, name) {
         Ok(()) => Ok(()),
-        Err(cause) => Err(cause),
+        Err(error) => Err(PatchCause::Edit(error)),
     }
 }

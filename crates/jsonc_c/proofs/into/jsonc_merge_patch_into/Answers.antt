@@ -18,7 +18,7 @@ pub returns-in-Ok-clause-merged : goal.returns-in-Ok-clause-merged
 returns-in-Ok-clause-merged c = λ zero.
     let filled = c.fill.ensures.filled zero in
     let same : take c.fill.new.len c.fill.new.room ≡ string_bytes c.in-Ok.made = search (rules, filled) in
-    subst (IsMergedBy Global (options_of c.args.options) c.args.patch.now c.args.text.now) (sym same) c.in-Ok.ensures.merged
+    subst (IsMergedBy (options_of c.args.options) c.args.patch.now c.args.text.now) (sym same) c.in-Ok.ensures.merged
 
 pub returns-in-Ok-clause-refused : goal.returns-in-Ok-clause-refused
 returns-in-Ok-clause-refused c = λ some room. absurd (room (c.fill.ensures.no_room some).0)

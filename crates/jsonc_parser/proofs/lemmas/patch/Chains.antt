@@ -16,9 +16,9 @@ use Rattle.jsonc_tree.specs.OrderedTree.{ordered_tree}
 use Rattle.jsonc_layout.specs.declared.input.value.CstInputValue.{CstInputValue}
 use Rattle.jsonc_layout.specs.input.Views.{chars_of, plain}
 use Rattle.jsonc_sound.specs.Documents.{Shows}
-use Rattle.jsonc_run.specs.declared.edit.Edit.{Edit}
-use Rattle.jsonc_run.specs.Edits.{operation_of, remove, unsorted, PlainEdit}
-use Rattle.jsonc_run.specs.promise.Asked.{none_asked, one_asked, EditsTo}
+use Rattle.jsonc_run.specs.Edits.{remove, PlainEdit}
+use Rattle.jsonc_run.specs.promise.Chains.{none_named, one_named, NamedRun}
+use Rattle.jsonc_run.specs.texts.Edits as texts
 use Rattle.jsonc_run.proofs.lemmas.promise.Leads.{shown_are_documents}
 use Rattle.jsonc_cst.specs.declared.cst.CstRootNode.{CstRootNode}
 use Rattle.jsonc_cst.specs.Document.{nodes_of, tree_of}
@@ -44,9 +44,9 @@ use Rattle.jsonc_parser.proofs.lemmas.patch.Failing.{memory_cause, unedited}
 use Rattle.jsonc_parser.proofs.lemmas.patch.Operating.{nothing_more}
 use Rattle.jsonc_parser.proofs.lemmas.patch.Unique.{unique_collapse}
 
-pub joined : {A : Type 0} {d e f : Document} {es fs : List (Edit A)} → EditsTo d es e → EditsTo e fs f → EditsTo d (es ++ fs) f
-joined (none_asked one) k = k
-joined (one_asked order op place asks run rest) k = one_asked order op place asks run (joined rest k)
+pub joined : {d e f : Document} {es fs : List PlainEdit} {ops more : List texts.Operation} → NamedRun d es ops e → NamedRun e fs more f → NamedRun d (es ++ fs) (ops ++ more) f
+joined (none_named one) k = k
+joined (one_named named asks run rest) k = one_named named asks run (joined rest k)
 
 all_more : {S : Type 0} {Leads : value.Operation → S → S → Type 0} {os : List value.Operation} {w x y : S} (o : value.Operation) → LeadInOrder Leads os w x → Leads o x y → LeadInOrder Leads (os ++ o ∷ []) w y
 all_more o none_made m = one_made m none_made
@@ -66,7 +66,7 @@ module _ {A : Type 0} (old : CstRootNode A) where
         s.0,
         s.1,
         record {
-          steps = subst (λ l. LeadInOrder (IsMade A) l d s.0) (sym (map-append asked operations (operation ∷ []))) (all_more (asked operation) p.2.steps s.2);
+          steps = subst (λ l. LeadInOrder IsMade l d s.0) (sym (map-append asked operations (operation ∷ []))) (all_more (asked operation) p.2.steps s.2);
           options = s.2.options ∙ p.2.options;
           within = λ h. s.2.within (p.2.within h);
           made = subst (λ l. MakesAll l d.value s.0.value) (sym (map-append asked operations (operation ∷ []))) (all_more (asked operation) p.2.made s.2.made);
@@ -161,8 +161,8 @@ module _ {A : Type 0} (old new : CstRootNode A) (from to : List (List ℕ)) (tak
       let t = takes d shown in
       let s = step d shown (taken_fits old from (plain taken) d shown t) in
       let a = added_by s.2.own in
-      let own : by.IsMadeBy d.value (value.copy from to) (map (operation_of unsorted) s.2.edits) = subst (by.IsMadeBy d.value (value.copy from to)) (sym a.1) (by.copies t a.2) in
-      (s.0, s.1, record { edits = s.2.edits; own = own; edited = s.2.edited; options = s.2.options; made = (plain taken, t, s.2.made); within = s.2.within })
+      let own : by.IsMadeBy d.value (value.copy from to) s.2.edits = subst (by.IsMadeBy d.value (value.copy from to)) (sym a.1) (by.copies t a.2) in
+      (s.0, s.1, record { edits = s.2.edits; ops = s.2.ops; own = own; edited = s.2.edited; options = s.2.options; made = (plain taken, t, s.2.made); within = s.2.within })
 
   -- it leaves, and is added
   pub moved_so : LeadsElsewhere from to → IsOfShown old (λ d. ¬ (IsWithinObject from to d.value)) → (mid : CstRootNode A) → MakesWhatShown old (value.remove from) (λ o. Unit {0}) mid → MakesWhatShown mid (value.add to (plain taken)) (λ o. IsOfNumbers o (plain taken)) new
@@ -179,7 +179,8 @@ module _ {A : Type 0} (old new : CstRootNode A) (from to : List (List ℕ)) (tak
         s.1,
         record {
           edits = f.2.edits ++ s.2.edits;
-          own = subst (by.IsMadeBy d.value (value.move from to)) (sym (map-append (operation_of unsorted) f.2.edits s.2.edits ∙ (λ i. r.2 i ++ a.1 i))) (by.moves elsewhere (apart d shown) r.3 f.2.made added);
+          ops = f.2.ops ++ s.2.ops;
+          own = subst (by.IsMadeBy d.value (value.move from to)) (sym (λ i. r.2 i ++ a.1 i)) (by.moves elsewhere (apart d shown) r.3 f.2.made added);
           edited = joined f.2.edited s.2.edited;
           within = λ h. s.2.within (f.2.within h);
           options = s.2.options ∙ f.2.options;
@@ -191,7 +192,7 @@ module _ {A : Type 0} (old new : CstRootNode A) (from to : List (List ℕ)) (tak
 pub unchanged : {A : Type 0} (old new : CstRootNode A) (operation : value.Operation) (Fit : Options → Type 0) → tree_of new ≡ tree_of old → ((w : Option Plain) → by.IsMadeBy w operation []) → IsOfShown old (λ d. Makes operation d.value d.value)
     → MakesWhatShown old operation Fit new
 unchanged {A} old new operation Fit same own makes d shown fit =
-    (d, subst (Shows d) (sym same) shown, record { edits = []; own = own d.value; edited = none_asked (shown_are_documents (tree_of old) d shown); options = refl; made = makes d shown; within = λ h. h })
+    (d, subst (Shows d) (sym same) shown, record { edits = []; ops = []; own = own d.value; edited = none_named (shown_are_documents (tree_of old) d shown); options = refl; made = makes d shown; within = λ h. h })
 
 -- where a value is moved to its own place
 pub same_place : (from to : List (List ℕ)) → LeadsOn from to → length from ≡ length to → from ≡ to
@@ -262,12 +263,6 @@ tests_so doc tokens v taken b takes decides is d shown =
 module _ {A E : Type 0} (old new : CstRootNode A) (r : Result (Unit {0}) E) where
   pub as_asked : (op other : Operation A) → op ≡ other → OnOk r (MakesWhatShown old (asked other) (λ o. FitsIn o other) new) → OnOk r (MakesWhatShown old (asked op) (λ o. FitsIn o op) new)
   as_asked op other is made = subst (λ k. OnOk r (MakesWhatShown old (asked k) (λ o. FitsIn o k) new)) (sym is) made
-
-  pub added_value : (tokens : List (List ℕ)) (v w : Plain) → w ≡ v → OnOk r (MakesWhatShown old (value.add tokens w) (λ o. IsOfNumbers o w) new) → OnOk r (MakesWhatShown old (value.add tokens v) (λ o. IsOfNumbers o v) new)
-  added_value tokens v w is made = subst (λ k. OnOk r (MakesWhatShown old (value.add tokens k) (λ o. IsOfNumbers o k) new)) is made
-
-  pub replaced_value : (tokens : List (List ℕ)) (v w : Plain) → w ≡ v → OnOk r (MakesWhatShown old (value.replace tokens w) (λ o. IsOfNumbers o w) new) → OnOk r (MakesWhatShown old (value.replace tokens v) (λ o. IsOfNumbers o v) new)
-  replaced_value tokens v w is made = subst (λ k. OnOk r (MakesWhatShown old (value.replace tokens k) (λ o. IsOfNumbers o k) new)) is made
 
   pub kept_anyhow : (op : Operation A) → OnErr r (IsKept old new) → OnErr r (is_one_edit op ≡ true → IsKept old new)
   kept_anyhow op kept = go r kept
@@ -347,13 +342,6 @@ module _ {A : Type 0} (old new : CstRootNode A) (r : Result (Unit {0}) (PatchCau
 pub unchanged_kept : {A : Type 0} (doc : CstRootNode A) (r : Result (Unit {0}) (PatchCause A)) (op : Operation A) → OnErr r (is_one_edit op ≡ true → IsKept doc doc)
 unchanged_kept doc (Ok x) op = tt
 unchanged_kept doc (Err e) op = λ one. kept_same doc
-
-module _ {A : Type 0} (old : CstRootNode A) (r : Result (Unit {0}) (PatchCause A)) (tokens : List (List ℕ)) (v w : Plain) (is : w ≡ v) where
-  pub fails_added : IfErr r (FailsWhatShown old (value.add tokens w)) → IfErr r (FailsWhatShown old (value.add tokens v))
-  fails_added fails = subst (λ k. IfErr r (FailsWhatShown old (value.add tokens k))) is fails
-
-  pub fails_replaced : IfErr r (FailsWhatShown old (value.replace tokens w)) → IfErr r (FailsWhatShown old (value.replace tokens v))
-  fails_replaced fails = subst (λ k. IfErr r (FailsWhatShown old (value.replace tokens k))) is fails
 
 -- lists of one, and of none
 pub empty_list : {T : Type 0} (xs : List T) → length xs ≡ 0 → xs ≡ []

@@ -4,23 +4,16 @@ use Rattle.std.proofs.lemmas.Bool.{cases_Bool, false≢true}
 use Rattle.jsonc_text.specs.Plain.{Plain}
 use Rattle.jsonc_tree.specs.Building.{Keeps}
 use Rattle.jsonc_tree.specs.Changes.{Splices}
-use Rattle.jsonc_tree.specs.Tree.{Node, parent_at, IsTree}
-use Rattle.jsonc_edit.specs.Paths.{IsElementOf, LeadsTo}
+use Rattle.jsonc_tree.specs.Tree.{Node, parent_at}
 use Rattle.jsonc_edit.specs.Put.{AreSpaced, Extends}
-use Rattle.jsonc_edit.specs.Paths as paths
 use Rattle.jsonc_edit.specs.Reading.{IsReplaced, IsReplacedRaw}
-use Rattle.jsonc_edit.specs.remove.Removed.{is_hollow, IsClosedUp, IsTakenFrom, LosesChild}
+use Rattle.jsonc_edit.specs.remove.Removed.{is_hollow, IsClosedUp, IsTakenFrom, LosesChild, TakesElement}
 use Rattle.jsonc_edit.specs.set.RootSet.{FirstValue}
-use Rattle.jsonc_edit.proofs.Uniqueness.{element_parent}
 use Rattle.jsonc_insert.specs.Inserted.{ElementPut}
 use Rattle.jsonc_insert.specs.members.Inserted.{PropertyPut}
-use Rattle.jsonc_layout.specs.input.Views.{chars_of}
 use Rattle.jsonc_layout.specs.nodes.Properties.{value_at}
-use Rattle.jsonc_run.specs.declared.edit.Edit.{Edit}
-use Rattle.jsonc_run.specs.declared.edit.Edit.TheVariants.{Replace, Remove, RemoveComment, SetRoot, ClearRoot, ReplaceProperty, EnsureRoot, SetValue, EnsureValue, SetBoolean, EnsureMultiline, InsertElement, AppendElement, InsertProperty, AppendProperty, EnsureProperty, SetTrailingCommas, Sort, RenameProperty, InsertComment}
-use Rattle.jsonc_run.specs.Edits.{operation_of, unsorted, EditStep, RootSet}
-use Rattle.jsonc_run.specs.Places.{IsEntryAt, an_entry, in_array, in_object, the_value}
-use Rattle.jsonc_parser.specs.patch.Room.{is_of_operation, KeepsContents}
+use Rattle.jsonc_run.specs.Edits.{RootSet}
+use Rattle.jsonc_parser.specs.patch.Room.{KeepsContents}
 
 pub contents_same : (ns : List Node) → KeepsContents ns ns
 contents_same ns = record { len = omega arith; content = λ n h. refl }
@@ -54,20 +47,20 @@ ready_contents : (old ready spaced : List Node) → Extends old ready → (xs : 
 ready_contents old ready spaced p xs spaces = contents_through old ready spaced (kept_contents old ready p.keeps) (spaced_contents xs ready spaced spaces)
 
 module _ (old new : List Node) where
-  replaced_contents : (n m : ℕ) (v : Plain) → IsReplaced old new n v m → KeepsContents old new
+  pub replaced_contents : (n m : ℕ) (v : Plain) → IsReplaced old new n v m → KeepsContents old new
   replaced_contents n m v (c, said, g) = contents_through old g.spaced new (ready_contents old g.ready g.spaced g.prepared _ g.spaces) (spliced_contents g.spaced new _ _ _ _ g.place.replaces.spliced)
 
-  renamed_contents : (n m : ℕ) (v : Plain) → IsReplacedRaw old new n v m → KeepsContents old new
+  pub renamed_contents : (n m : ℕ) (v : Plain) → IsReplacedRaw old new n v m → KeepsContents old new
   renamed_contents n m v (c, said, g) = row_contents old g.ready new g.prepared _ _ _ _ g.place.replaces.spliced
 
-  root_contents : (v : Plain) (o : Option ℕ) → RootSet old new v o → KeepsContents old new
+  pub root_contents : (v : Plain) (o : Option ℕ) → RootSet old new v o → KeepsContents old new
   root_contents v None (m, first) = row_contents old first.ready new first.prepared _ _ _ _ first.put
   root_contents v (Some n) (m, given) = replaced_contents n m v given
 
-  element_contents : (c i m : ℕ) (v : Plain) → ElementPut old new c i v m → KeepsContents old new
+  pub element_contents : (c i m : ℕ) (v : Plain) → ElementPut old new c i v m → KeepsContents old new
   element_contents c i m v put = row_contents old put.ready new put.prepared _ _ _ _ put.put
 
-  property_contents : (c i m : ℕ) (name : List ℕ) (v : Plain) → PropertyPut old new c i name v m → KeepsContents old new
+  pub property_contents : (c i m : ℕ) (name : List ℕ) (v : Plain) → PropertyPut old new c i name v m → KeepsContents old new
   property_contents c i m name v put =
       contents_through old put.lined new (kept_contents old put.lined put.before.opens.prepared.keeps) (row_contents put.lined put.ready new put.prepared _ _ _ _ put.put)
 
@@ -88,33 +81,10 @@ taken_contents old new n c t =
     (contents_through t.spaced t.parted new (spliced_contents t.spaced t.parted _ _ _ _ t.stretch)
     (contents_through t.parted t.joined new (lost_contents t.parted t.joined c _ t.comma) (closed_contents t.joined new c t.closed)))
 
--- an entry of a document has a parent
-entry_parent : (ns : List Node) → IsTree ns → (path : List ℕ) (n : ℕ) → IsEntryAt ns path n → (c : ℕ) × (parent_at ns n ≡ Some c)
-entry_parent ns tree _ n (the_value at) = value_parent n at.0 at.1 at.2
+-- an entry that has no parent stays
+pub removed_contents : (old new : List Node) (n : ℕ) → (parent_at old n ≡ None → new ≡ old) → TakesElement old new n → KeepsContents old new
+removed_contents old new n untouched takes = go (parent_at old n) refl
   where
-    value_parent : (n v : ℕ) → IsElementOf ns 0 0 v → LeadsTo ns n v [] → (c : ℕ) × (parent_at ns n ≡ Some c)
-    value_parent n _ e paths.itself = (0, element_parent ns tree 0 0 n e)
-entry_parent ns tree _ n (an_entry front c i at (in_array is e)) = (c, element_parent ns tree c i n e)
-entry_parent ns tree _ n (an_entry front c i at (in_object p)) = (c, element_parent ns tree c i n p.element)
-
-pub edit_contents : {A : Type 0} (edit : Edit A) (old new : List Node) → IsTree old → is_of_operation edit ≡ true → EditStep old (operation_of unsorted edit) new → KeepsContents old new
-edit_contents (Replace path value) old new tree is (n, at, (m, given)) = replaced_contents old new n m _ given
-edit_contents (Remove path) old new tree is (n, at, takes) = let (c, said) = entry_parent old tree _ n at in taken_contents old new n c (takes c said).1
-edit_contents (SetRoot value) old new tree is set = root_contents old new _ (value_at old 0) set
-edit_contents (InsertElement path index value) old new tree is (n, at, (m, put)) = element_contents old new n _ m _ put
-edit_contents (AppendElement path value) old new tree is (n, at, (m, put)) = element_contents old new n _ m _ put
-edit_contents (AppendProperty path name value) old new tree is (n, at, (m, put)) = property_contents old new n _ m _ _ put
-edit_contents (RenameProperty path name) old new tree is (n, at, (m, renamed)) = renamed_contents old new renamed.0 m (Plain.string (chars_of name)) renamed.2
-edit_contents (RemoveComment number) old new tree is step = absurd (false≢true is)
-edit_contents ClearRoot old new tree is step = absurd (false≢true is)
-edit_contents (ReplaceProperty path name value) old new tree is step = absurd (false≢true is)
-edit_contents (EnsureRoot shape how) old new tree is step = absurd (false≢true is)
-edit_contents (SetValue path value) old new tree is step = absurd (false≢true is)
-edit_contents (EnsureValue path shape) old new tree is step = absurd (false≢true is)
-edit_contents (SetBoolean path value) old new tree is step = absurd (false≢true is)
-edit_contents (EnsureMultiline path) old new tree is step = absurd (false≢true is)
-edit_contents (InsertProperty path index name value) old new tree is step = absurd (false≢true is)
-edit_contents (EnsureProperty path name shape how) old new tree is step = absurd (false≢true is)
-edit_contents (SetTrailingCommas path mode) old new tree is step = absurd (false≢true is)
-edit_contents (Sort path pin groups) old new tree is step = absurd (false≢true is)
-edit_contents (InsertComment path place text) old new tree is step = absurd (false≢true is)
+    go : (p : Option ℕ) → parent_at old n ≡ p → KeepsContents old new
+    go None is = contents_are old new (untouched is)
+    go (Some c) is = taken_contents old new n c (takes c is).1

@@ -3,35 +3,32 @@ use Rattle.std.proofs.Common.{ℕ, ◌≡◌, ◌≢◌, ◌<◌, ◌≤◌, ◌
 use Rattle.std.specs.Bool.{Decides}
 use Rattle.std.proofs.lemmas.Bool.{false≢true}
 use Rattle.std.proofs.lemmas.List.{append-nil}
-use Rattle.std.specs.declared.string.String.{String}
-use Rattle.std.specs.declared.vec.Vec.{Vec}
 use Rattle.jsonc_text.specs.Documents.{Document}
-use Rattle.jsonc_text.specs.Plain.{Plain, array, object}
+use Rattle.jsonc_text.specs.Plain.{Plain, Items, array, object}
+use Rattle.jsonc_text.specs.declared.edit.EditError.{EditError}
 use Rattle.jsonc_tree.specs.Content as content
-use Rattle.jsonc_tree.specs.Tree.{Node, content_at, IsTree}
+use Rattle.jsonc_tree.specs.Tree.{Node, content_at, parent_at, IsTree}
 use Rattle.jsonc_edit.specs.Changes.{row_below, top_at}
-use Rattle.jsonc_edit.specs.Paths.{IsAt}
 use Rattle.jsonc_edit.proofs.ChangesUpward.{Shows-row_below}
-use Rattle.jsonc_edit.proofs.Uniqueness.{path_once}
 use Rattle.jsonc_edit.proofs.lemmas.set.PropertyRows.{counted_elements}
 use Rattle.jsonc_insert.specs.elements.Laws.{item_count}
 use Rattle.jsonc_insert.proofs.lemmas.elements.Items as rows
-use Rattle.jsonc_layout.specs.declared.input.value.CstInputValue.{CstInputValue}
 use Rattle.jsonc_layout.specs.input.Views.{chars_of, plain}
 use Rattle.jsonc_layout.specs.nodes.Siblings.{elements_at}
-use Rattle.jsonc_sound.specs.Changes.{Changed}
 use Rattle.jsonc_sound.specs.Documents.{Shows}
 use Rattle.jsonc_sound.specs.Sound.{HasValue}
-use Rattle.jsonc_run.specs.declared.edit.Edit.{Edit}
-use Rattle.jsonc_run.specs.declared.edit.Edit.TheVariants.{Replace, Remove, SetRoot, InsertElement, AppendElement, AppendProperty}
-use Rattle.jsonc_run.specs.Edits.{operation_of, unsorted}
-use Rattle.jsonc_run.specs.Named.{comment_count, IsNamed, StandsAt}
+use Rattle.jsonc_run.specs.Edits.{append_element, append_property, insert_element, remove, replace, set_root}
+use Rattle.jsonc_run.specs.Named.{StandsAt}
+use Rattle.jsonc_run.specs.Refusals.{FailsWith}
+use Rattle.jsonc_run.proofs.EditsMade.{not_alone, told_at}
+use Rattle.jsonc_run.proofs.Inserted.{never_place}
 use Rattle.jsonc_run.proofs.lemmas.promise.Plains.{stands_there}
 use Rattle.jsonc_cst.specs.declared.cst.CstRootNode.{CstRootNode}
 use Rattle.jsonc_cst.specs.declared.cst.node.CstNode.{CstNode}
 use Rattle.jsonc_cst.specs.Document.{nodes_of, tree_of}
 use Rattle.jsonc_cst.specs.Nodes.{number_of}
-use Rattle.jsonc_parser.specs.patch.Applied.{FailsBelow, FailsForMemory, FailsWhatShown, HasCause, IsCause, IsNoMemory, IsNoRoom, IsUnedited, IsPathless, IsPlaceBy, IsRefusal, IsUnfound, LeadsOn, LeadsOver, MakesWhatShown, Takes}
+use Rattle.jsonc_cst.specs.typed.There.{detached, entry_above, refused, too_deep, IsRefusedThere}
+use Rattle.jsonc_parser.specs.patch.Applied.{FailsBelow, FailsWhatShown, HasCause, IsCause, IsNoMemory, IsNoRoom, IsUnedited, IsPlaceBy, IsUnfound, LeadsOn, MakesWhatShown, Takes}
 use Rattle.jsonc_parser.specs.patch.Equality.{AreEqual, HasUniqueNames}
 use Rattle.jsonc_parser.specs.patch.Failing.{below_nothing, below_scalar, past_elements, HasNoTarget, MeetsTwice, ReferToNothing}
 use Rattle.jsonc_parser.specs.patch.Found.{FindFails, IsOfShown, ReadFails, RefersToNode, RefersToNothing}
@@ -43,10 +40,12 @@ use Rattle.jsonc_parser.specs.declared.patch.making.PatchCause.{PatchCause}
 use Rattle.jsonc_parser.specs.declared.patch.making.PatchCause.TheVariants as causes
 use Rattle.jsonc_parser.specs.declared.patch.reference.FindError.{FindError}
 use Rattle.jsonc_parser.specs.declared.patch.reference.FindError.TheVariants as errors
-use Rattle.jsonc_text.specs.declared.edit.EditError.TheVariants.{OutOfMemory}
-use Rattle.jsonc_parser.proofs.lemmas.paths.Calls.{for_room, IsNoRemark}
+use Rattle.jsonc_text.specs.declared.edit.EditError.TheVariants.{NoSuchPlace, OutOfMemory}
+use Rattle.jsonc_parser.specs.patch.Lookups.{StepFails}
+use Rattle.jsonc_parser.proofs.lemmas.paths.Calls.{for_room}
 use Rattle.jsonc_parser.proofs.lemmas.patch.Evaluation.{refers_changed}
 use Rattle.jsonc_parser.proofs.lemmas.patch.Nodes.{array_content, array_value, its, object_content, there}
+use Rattle.jsonc_parser.proofs.lemmas.patch.There.{entry_not_alone, entry_there, never_placeless, room_there}
 use Rattle.jsonc_parser.proofs.lemmas.patch.Unique.{unique_collapse}
 
 -- where evaluation fails on the way, it fails for longer pointers
@@ -176,116 +175,96 @@ module _ {A : Type 0} where
     pub nowhere : IsOfShown doc (λ d. RefersToNothing d tokens) → IsOfShown doc (λ d. ReferToNothing d.value tokens)
     nowhere none d shown = let n = none d shown in (n.nothing, n.unique)
 
-    -- a node that tokens refer to has a path
-    pub has_path : (node : CstNode) → IsOfShown doc (λ d. RefersToNode d (nodes_of doc) tokens (number_of node)) → (c : PatchCause A) → IsPathless doc node c → IsOfShown doc (λ d. IsNoMemory c)
-    has_path node leads causes.NoTarget none d shown = let w = leads d shown in absurd (none w.path w.at)
-    has_path node leads (causes.Edit why) is d shown = is
-    has_path node leads (causes.RepeatedName name) is d shown = absurd is
-    has_path node leads causes.IntoItself is d shown = absurd is
-    has_path node leads causes.NotEqual is d shown = absurd is
-    has_path node leads causes.TooLarge is d shown = absurd is
-
-    pub path_unfound : (node : CstNode) → IsOfShown doc (λ d. RefersToNode d (nodes_of doc) tokens (number_of node)) → (c : PatchCause A) → IsPathless doc node c → IsOfShown doc (λ d. IsUnfound d.value tokens c)
-    path_unfound node leads c is d shown = memory_unfound d.value tokens c (has_path node leads c is d shown)
-
-  -- an edit that has its place is refused for memory, or as nested too deep
+  -- an edit at its place is refused for memory, or as nested too deep
   module _ (doc : CstRootNode A) (tree : IsTree (nodes_of doc)) where
-    pub refusal_memory : (e : Edit A) → IsNoRemark (operation_of unsorted e) → (c : PatchCause A) → IsRefusal doc e c → (d : Document) → Shows d (tree_of doc) → IsNamed d.value (comment_count (tree_of doc)) (operation_of unsorted e) → IsUnedited c
-    refusal_memory e none (causes.Edit why) reported d shown named = for_room d (nodes_of doc) (operation_of unsorted e) why tree shown named none reported
-    refusal_memory e none causes.NoTarget reported d shown named = absurd reported
-    refusal_memory e none (causes.RepeatedName name) reported d shown named = absurd reported
-    refusal_memory e none causes.IntoItself reported d shown named = absurd reported
-    refusal_memory e none causes.NotEqual reported d shown named = absurd reported
-    refusal_memory e none causes.TooLarge reported d shown named = absurd reported
+    pub unset : (v : Plain) (why : EditError) → why ≢ NoSuchPlace → IsRefusedThere (nodes_of doc) 0 (set_root v) why → FailsWhatShown doc (value.add [] v) (causes.Edit why)
+    unset v why other k d shown = for_room d (nodes_of doc) (set_root v) why tree shown tt (λ h. h, λ h. h) (root_refused why other k)
+      where
+        root_refused : (why : EditError) → why ≢ NoSuchPlace → IsRefusedThere (nodes_of doc) 0 (set_root v) why → FailsWith (nodes_of doc) (set_root v) why
+        root_refused why other (too_deep deep) = deep
+        root_refused why other (refused k) = told_at (nodes_of doc) (set_root v) 0 why (λ Is h. h) never_placeless k
+        root_refused why other (detached alone) = absurd (other refl)
 
-    pub unset : (v : CstInputValue A) (c : PatchCause A) → IsRefusal doc (SetRoot v) c → FailsWhatShown doc (value.add [] (plain v)) c
-    unset v c reported d shown = memory_cause (value.add [] (plain v)) d.value c (refusal_memory (SetRoot v) (λ h. h, λ h. h) c reported d shown tt)
+    -- at a node to which tokens refer
+    module _ (node : CstNode) (tokens : List (List ℕ)) (leads : IsOfShown doc (λ d. RefersToNode d (nodes_of doc) tokens (number_of node))) (why : EditError) where
+      module _ (d : Document) (shown : Shows d (tree_of doc)) where
+        standing : (w : RefersToNode d (nodes_of doc) tokens (number_of node)) → StandsAt w.v w.path d.value
+        standing w = stands_there w.value w.is (refers_changed w.refers)
 
-    module _ (path : Vec ℕ A) (tokens : List (List ℕ)) (n : ℕ) (at : IsAt (nodes_of doc) path.items n) (d : Document) (shown : Shows d (tree_of doc)) (w : RefersToNode d (nodes_of doc) tokens n) where
-      over : w.path ≡ path.items
-      over = path_once (nodes_of doc) tree w.path path.items n w.at at
+        not_detached : (w : RefersToNode d (nodes_of doc) tokens (number_of node)) → parent_at (nodes_of doc) (number_of node) ≡ None → ⊥
+        not_detached w = not_alone (nodes_of doc) tree w.path (number_of node) w.at
 
-      stands : StandsAt w.v path.items d.value
-      stands = stands_there w.value w.is (subst (λ p. Changed w.v w.v p w.value w.value) over (refers_changed w.refers))
+      pub removes_not : ((path : List ℕ) → IsRefusedThere (nodes_of doc) (entry_above (nodes_of doc) (number_of node)) (remove path) why) → FailsWhatShown doc (value.remove tokens) (causes.Edit why)
+      removes_not k d shown =
+          let ns : List Node = nodes_of doc in
+          let w = leads d shown in
+          let n : ℕ = entry_above ns (number_of node) in
+          let found = entry_there ns tree w.path (number_of node) w.at in
+          room_there ns tree n (remove w.path) (λ Is h. (n, found, h)) (entry_not_alone ns tree w.path n found) (λ h. h) (λ h. h, λ h. h) d shown (w.v, standing d shown w) why (k w.path)
 
-      pub memory_to_remove : (c : PatchCause A) → IsRefusal doc (Remove path) c → IsUnedited c
-      memory_to_remove c reported = refusal_memory (Remove path) (λ h. h, λ h. h) c reported d shown (w.v, stands)
+      -- a value is replaced
+      replace_refused : (v : Plain) → ((path : List ℕ) → IsRefusedThere (nodes_of doc) (number_of node) (replace path v) why) → (d : Document) → Shows d (tree_of doc) → IsNoRoom why
+      replace_refused v k d shown =
+          let w = leads d shown in
+          room_there (nodes_of doc) tree (number_of node) (replace w.path v) (λ Is h. (number_of node, w.at, h)) (not_detached d shown w) never_placeless (λ h. h, λ h. h) d shown (w.v, standing d shown w) why (k w.path)
 
-      module _ (v : CstInputValue A) (c : PatchCause A) where
-        pub memory_to_replace : IsRefusal doc (Replace path v) c → IsUnedited c
-        memory_to_replace reported = refusal_memory (Replace path v) (λ h. h, λ h. h) c reported d shown (w.v, stands)
+      pub replaces_not : (v : Plain) → ((path : List ℕ) → IsRefusedThere (nodes_of doc) (number_of node) (replace path v) why) → FailsWhatShown doc (value.replace tokens v) (causes.Edit why)
+      replaces_not v k d shown = replace_refused v k d shown
 
-        module _ (kind : content_at (nodes_of doc) n ≡ content.array) where
-          items_there : (vs : _) × StandsAt (array vs) path.items d.value
-          items_there = let a = array_value d.options (content_at (nodes_of doc) n) (row_below (nodes_of doc) n) w.v kind w.has in (a.0, subst (λ x. StandsAt x path.items d.value) a.1 stands)
+      pub puts_not : (all : List (List ℕ)) (v : Plain) → ((path : List ℕ) → IsRefusedThere (nodes_of doc) (number_of node) (replace path v) why) → FailsWhatShown doc (value.add all v) (causes.Edit why)
+      puts_not all v k d shown = replace_refused v k d shown
 
-          pub memory_to_insert : (index : ℕ) → IsRefusal doc (InsertElement path index v) c → IsUnedited c
-          memory_to_insert index reported = refusal_memory (InsertElement path index v) (λ h. h, λ h. h) c reported d shown items_there
+      -- an element is inserted
+      module _ (kind : content_at (nodes_of doc) (number_of node) ≡ content.array) (all : List (List ℕ)) (v : Plain) where
+        items_there : (d : Document) → Shows d (tree_of doc) → (w : RefersToNode d (nodes_of doc) tokens (number_of node)) → (vs : Items) × StandsAt (array vs) w.path d.value
+        items_there d shown w =
+            let a = array_value d.options (content_at (nodes_of doc) (number_of node)) (row_below (nodes_of doc) (number_of node)) w.v kind w.has in
+            (a.0, subst (λ x. StandsAt x w.path d.value) a.1 (standing d shown w))
 
-          pub memory_to_append : IsRefusal doc (AppendElement path v) c → IsUnedited c
-          memory_to_append reported = refusal_memory (AppendElement path v) (λ h. h, λ h. h) c reported d shown items_there
+        pub inserts_not : (index : ℕ) → ((path : List ℕ) → IsRefusedThere (nodes_of doc) (number_of node) (insert_element path index v) why) → FailsWhatShown doc (value.add all v) (causes.Edit why)
+        inserts_not index k d shown =
+            let w = leads d shown in
+            let n : ℕ = number_of node in
+            room_there (nodes_of doc) tree n (insert_element w.path index v) (λ Is h. (n, (w.at, kind), h)) (not_detached d shown w) (never_place (nodes_of doc) n) (λ h. h, λ h. h) d shown (items_there d shown w) why (k w.path)
 
-        pub memory_for_member : content_at (nodes_of doc) n ≡ content.object → (name : String A) → IsRefusal doc (AppendProperty path name v) c → IsUnedited c
-        memory_for_member kind name reported =
-            let m = its d (nodes_of doc) tree shown tokens n w (chars_of name) kind in
-            refusal_memory (AppendProperty path name v) (λ h. h, λ h. h) c reported d shown (m.0, subst (λ x. StandsAt x path.items d.value) m.1 stands)
+        pub appends_not : ((path : List ℕ) → IsRefusedThere (nodes_of doc) (number_of node) (append_element path v) why) → FailsWhatShown doc (value.add all v) (causes.Edit why)
+        appends_not k d shown =
+            let w = leads d shown in
+            let n : ℕ = number_of node in
+            room_there (nodes_of doc) tree n (append_element w.path v) (λ Is h. (n, (w.at, kind), h)) (not_detached d shown w) (never_place (nodes_of doc) n) (λ h. h, λ h. h) d shown (items_there d shown w) why (k w.path)
 
-    module _ (path : Vec ℕ A) (tokens : List (List ℕ)) (leads : LeadsOver doc tokens path.items) (c : PatchCause A) where
-      pub removes_not : IsRefusal doc (Remove path) c → FailsWhatShown doc (value.remove tokens) c
-      removes_not reported d shown = memory_cause (value.remove tokens) d.value c (memory_to_remove path tokens leads.0 leads.1 d shown (leads.2 d shown) c reported)
-
-      pub replaces_not : (v : CstInputValue A) → IsRefusal doc (Replace path v) c → FailsWhatShown doc (value.replace tokens (plain v)) c
-      replaces_not v reported d shown = memory_cause (value.replace tokens (plain v)) d.value c (memory_to_replace path tokens leads.0 leads.1 d shown (leads.2 d shown) v c reported)
-
-    -- at a node
-    module _ (node : CstNode) (c : PatchCause A) where
-      pub pathless_for_memory : IsPathless doc node c → FailsForMemory doc node c
-      pathless_for_memory is tokens leads d shown = unedited c (has_path doc tokens node leads c is d shown)
-
-      pub pathless_below : (all : List (List ℕ)) (last : List ℕ) (v : Plain) → IsPathless doc node c → FailsBelow doc node all last v c
-      pathless_below all last v is tokens split leads d shown = memory_cause (value.add all v) d.value c (unedited c (has_path doc tokens node leads c is d shown))
-
-      pub memory_below : (all : List (List ℕ)) (last : List ℕ) (v : Plain) → FailsForMemory doc node c → FailsBelow doc node all last v c
-      memory_below all last v short tokens split leads d shown = memory_cause (value.add all v) d.value c (short tokens leads d shown)
-
-      module _ (path : Vec ℕ A) (at : IsAt (nodes_of doc) path.items (number_of node)) (v : CstInputValue A) where
-        pub puts_not : IsRefusal doc (Replace path v) c → FailsForMemory doc node c
-        puts_not reported tokens leads d shown = memory_to_replace path tokens (number_of node) at d shown (leads d shown) v c reported
-
-        pub member_not : content_at (nodes_of doc) (number_of node) ≡ content.object → (name : String A) → IsRefusal doc (AppendProperty path name v) c → FailsForMemory doc node c
-        member_not kind name reported tokens leads d shown = memory_for_member path tokens (number_of node) at d shown (leads d shown) v c kind name reported
-
-        pub inserts_not : (all : List (List ℕ)) (last : List ℕ) → content_at (nodes_of doc) (number_of node) ≡ content.array → (index : ℕ) → IsRefusal doc (InsertElement path index v) c → FailsBelow doc node all last (plain v) c
-        inserts_not all last kind index reported tokens split leads d shown = memory_cause (value.add all (plain v)) d.value c (memory_to_insert path tokens (number_of node) at d shown (leads d shown) v c kind index reported)
-
-        pub appends_not : (all : List (List ℕ)) (last : List ℕ) → content_at (nodes_of doc) (number_of node) ≡ content.array → IsRefusal doc (AppendElement path v) c → FailsBelow doc node all last (plain v) c
-        appends_not all last kind reported tokens split leads d shown = memory_cause (value.add all (plain v)) d.value c (memory_to_append path tokens (number_of node) at d shown (leads d shown) v c kind reported)
+      pub member_not : content_at (nodes_of doc) (number_of node) ≡ content.object → (all : List (List ℕ)) (name : List ℕ) (v : Plain) → ((path : List ℕ) → IsRefusedThere (nodes_of doc) (number_of node) (append_property path name v) why)
+          → FailsWhatShown doc (value.add all v) (causes.Edit why)
+      member_not kind all name v k d shown =
+          let w = leads d shown in
+          let n : ℕ = number_of node in
+          let m = its d (nodes_of doc) tree shown tokens n w name kind in
+          room_there (nodes_of doc) tree n (append_property w.path name v) (λ Is h. (n, (w.at, kind), h)) (not_detached d shown w) (never_place (nodes_of doc) n) (λ h. h, λ h. h) d shown
+          (m.0, subst (λ x. StandsAt x w.path d.value) m.1 (standing d shown w)) why (k w.path)
 
     -- there is no place for what is to be added
-    module _ (node : CstNode) (all : List (List ℕ)) (last : List ℕ) (v : Plain) where
-      pub no_container : (content_at (nodes_of doc) (number_of node) ≡ content.object → ⊥) → (content_at (nodes_of doc) (number_of node) ≡ content.array → ⊥) → FailsBelow doc node all last v causes.NoTarget
-      no_container no_object no_array tokens split leads d shown =
+    module _ (node : CstNode) (last : List ℕ) (v : Plain) where
+      pub no_container : (content_at (nodes_of doc) (number_of node) ≡ content.object → ⊥) → (content_at (nodes_of doc) (number_of node) ≡ content.array → ⊥) → FailsBelow doc node last v causes.NoTarget
+      no_container no_object no_array tokens leads d shown =
           let ns : List Node = nodes_of doc in
           let n : ℕ = number_of node in
           let w = leads d shown in
-          subst (λ l. IsCause {A = A} (value.add l v) d.value causes.NoTarget) (sym split)
-          (below_scalar last (w.value, w.is, w.path, w.refers)
+          below_scalar last (w.value, w.is, w.path, w.refers)
           (λ vs e. no_array (array_content d.options (content_at ns n) (row_below ns n) vs (subst (HasValue d.options (top_at ns n)) e w.has)))
-          (λ ms e. no_object (object_content d.options (content_at ns n) (row_below ns n) ms (subst (HasValue d.options (top_at ns n)) e w.has))))
+          (λ ms e. no_object (object_content d.options (content_at ns n) (row_below ns n) ms (subst (HasValue d.options (top_at ns n)) e w.has)))
 
-      pub no_place : content_at (nodes_of doc) (number_of node) ≡ content.array → IsPlaceBy (nodes_of doc) (number_of node) last None → FailsBelow doc node all last v causes.NoTarget
-      no_place kind (other, past) tokens split leads d shown =
+      pub no_place : content_at (nodes_of doc) (number_of node) ≡ content.array → IsPlaceBy (nodes_of doc) (number_of node) last None → FailsBelow doc node last v causes.NoTarget
+      no_place kind (other, past) tokens leads d shown =
           let ns : List Node = nodes_of doc in
           let n : ℕ = number_of node in
           let w = leads d shown in
           let items = array_value d.options (content_at ns n) (row_below ns n) w.v kind w.has in
           let count : item_count items.0 ≡ length (elements_at ns n) = rows.counted d.options items.2 ∙ counted_elements (Shows-row_below ns tree n (there d ns tree shown tokens n w last)) in
-          subst (λ l. IsCause {A = A} (value.add l v) d.value causes.NoTarget) (sym split)
-          (past_elements last (w.value, w.is, w.path, subst (Refers w.value tokens w.path) items.1 w.refers) other (λ i index. (let far = past i index in omega (arith, far, count))))
+          past_elements last (w.value, w.is, w.path, subst (Refers w.value tokens w.path) items.1 w.refers) other (λ i index. (let far = past i index in omega (arith, far, count)))
 
-      pub member_unfound : (e : FindError A) (c : PatchCause A) → HasCause e c → IsOfShown doc (λ d. FindFails d doc all e) → FailsBelow doc node all last v c
-      member_unfound e c is fails tokens split leads = unfound_below doc all v e c is fails
-
-      -- the value of a member that is there
-      pub member_not_put : (inner : CstNode) (c : PatchCause A) → IsOfShown doc (λ d. RefersToNode d (nodes_of doc) all (number_of inner)) → FailsForMemory doc inner c → FailsBelow doc node all last v c
-      member_not_put inner c found short tokens split leads d shown = memory_cause (value.add all v) d.value c (short all found d shown)
+      -- a step that failed
+      pub member_unfound : (e : FindError A) (c : PatchCause A) → HasCause e c → StepFails doc node last e → FailsBelow doc node last v c
+      member_unfound (errors.RepeatedName name) c is (same, fails) tokens leads d shown =
+          let all : List (List ℕ) = tokens ++ last ∷ [] in
+          subst (IsCause (value.add all v) d.value) (sym is) (subst (FailsAt d.value all) (sym same) (fails d tokens shown (leads d shown) []))
+      member_unfound errors.OutOfMemory c is fails tokens leads d shown = subst (IsCause (value.add (tokens ++ last ∷ []) v) d.value) (sym is) tt

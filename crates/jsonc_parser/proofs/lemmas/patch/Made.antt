@@ -8,27 +8,24 @@ use Rattle.jsonc_text.specs.Plain.{Plain}
 use Rattle.jsonc_tree.specs.OrderedTree.{ordered_tree}
 use Rattle.jsonc_tree.specs.Tree.{Node, IsTree}
 use Rattle.jsonc_sound.specs.Documents.{Shows}
-use Rattle.jsonc_run.specs.declared.edit.Edit.{Edit}
 use Rattle.jsonc_run.specs.promise.Within.{KeepsWithin, StaysWithin}
-use Rattle.jsonc_run.specs.Edits.{PlainEdit, operation_of, unsorted, EditStep, none_made, first_made, Fits, IsOfCharacters, Allows}
+use Rattle.jsonc_run.specs.Edits.{PlainEdit, EditStep, none_made, first_made, IsOfCharacters, Allows}
 use Rattle.jsonc_run.specs.Named.{sets_root, Asks}
-use Rattle.jsonc_run.specs.promise.Asked.{EditsTo}
 use Rattle.jsonc_run.specs.promise.Chains.{NamedRun, none_named, one_named}
 use Rattle.jsonc_run.specs.texts.Edits as texts
 use Rattle.jsonc_run.specs.texts.Edits.{options_behind, Does, Makes, Operation, Run}
 use Rattle.jsonc_run.specs.texts.Entries as entries
 use Rattle.jsonc_run.specs.texts.Entries.{Becomes}
-use Rattle.jsonc_run.proofs.SoundChain.{of_characters}
-use Rattle.jsonc_run.proofs.lemmas.promise.Asked.{edits_to, none_asks, one_asks}
 use Rattle.jsonc_run.proofs.lemmas.promise.Leads.{edits_lead}
 
 -- from d an edit leads to e, which the nodes show, by the operation that it asks for there
-pub record Led {A : Type 0} (d : Document) (edit : Edit A) (new : List Node) : Type 0 where
+pub record Led (d : Document) (edit : PlainEdit) (new : List Node) : Type 0 where
   pub e : Document
   pub shown : Shows e (ordered_tree new 0)
-  pub edited : EditsTo d (edit ∷ []) e
+  pub ops : List Operation
+  pub edited : NamedRun d (edit ∷ []) ops e
   pub op : Operation
-  pub asks : Asks d.value (operation_of unsorted edit) op
+  pub asks : Asks d.value edit op
   pub options : e.options ≡ options_behind d.options op
   pub makes : Makes d op e
   pub within : StaysWithin d e
@@ -62,12 +59,11 @@ one_edit {d} {f} {asked} (one_named {m = m} {op = op} named asks run rest) is =
     let step = one_operation run refl in
     subst (One d asked) same (record { op = op; asks = asks; options = step.options; makes = step.makes })
 
-pub led : {A : Type 0} (edit : Edit A) (old new : List Node) → IsTree old → IsTree new → EditStep old (operation_of unsorted edit) new × KeepsWithin old (operation_of unsorted edit) new → (d : Document) → Shows d (ordered_tree old 0) → Fits d.options edit → Led d edit new
-led edit old new tree after made d shown fits =
-    let asked : PlainEdit = operation_of unsorted edit in
-    let l = edits_lead old new (asked ∷ []) tree (first_made made.0 after none_made) (All-cons IsOfCharacters asked [] (of_characters unsorted edit) (All-nil IsOfCharacters)) d shown (All-cons (Allows d.options) asked [] fits (All-nil (Allows d.options))) in
+pub led : (edit : PlainEdit) (old new : List Node) → IsTree old → IsTree new → IsOfCharacters edit → EditStep old edit new × KeepsWithin old edit new → (d : Document) → Shows d (ordered_tree old 0) → Allows d.options edit → Led d edit new
+led edit old new tree after characters made d shown fits =
+    let l = edits_lead old new (edit ∷ []) tree (first_made made.0 after none_made) (All-cons IsOfCharacters edit [] characters (All-nil IsOfCharacters)) d shown (All-cons (Allows d.options) edit [] fits (All-nil (Allows d.options))) in
     let one = one_edit l.4 refl in
-    record { e = l.0; shown = l.1; edited = edits_to (one_asks unsorted none_asks) l.4; op = one.op; asks = one.asks; options = one.options; makes = one.makes; within = made.1 d l.0 shown fits l.1 }
+    record { e = l.0; shown = l.1; ops = l.2; edited = l.4; op = one.op; asks = one.asks; options = one.options; makes = one.makes; within = made.1 d l.0 shown fits l.1 }
 
 -- what the operation does, where it is known
 pub does_so : (d e : Document) (op other : Operation) → op ≡ other → Makes d op e → Does d other e

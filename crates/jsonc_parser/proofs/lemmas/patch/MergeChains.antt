@@ -58,11 +58,11 @@ module _ {A : Type 0} (old new : CstRootNode A) where
   reached_same Fit Leads same leads d shown fit = (d, subst (Shows d) (sym same) shown, record { options = refl; leads = leads d shown; within = λ h. h })
 
   pub reached_by : (operation : value.Operation) (Fit Other : Options → Type 0) (Leads : Document → Document → Type 0) → MakesWhatShown old operation Fit new → ((o : Options) → Other o → Fit o)
-      → ((d : Document) → Shows d (tree_of old) → (e : Document) → IsMade A operation d e → Leads d e) → ReachesWhatShown old Other Leads new
+      → ((d : Document) → Shows d (tree_of old) → (e : Document) → IsMade operation d e → Leads d e) → ReachesWhatShown old Other Leads new
   reached_by operation Fit Other Leads made fits leads d shown fit =
       let m = made d shown (fits d.options fit) in (m.0, m.1, record { options = m.2.options; leads = leads d shown m.0 m.2; within = m.2.within })
 
-  pub merges_shown : (p : Plain) → ReachesWhatShown old (λ o. IsOfNumbers o p) (MergesIn A [] p) new → MergesWhatShown old p new
+  pub merges_shown : (p : Plain) → ReachesWhatShown old (λ o. IsOfNumbers o p) (MergesIn [] p) new → MergesWhatShown old p new
   merges_shown p reached d shown fit = let r = reached d shown fit in (r.0, r.1, record { steps = r.2.leads; options = r.2.options; merged = merges_value_of r.2.leads; within = r.2.within })
 
 -- so many members are merged
@@ -110,19 +110,19 @@ module _ {A : Type 0} where
 
   module _ (old : CstRootNode A) (tokens : List (List ℕ)) (ps : List (String A × CstInputValue A)) where
     abbrev pub MergedSoFar : ℕ → CstRootNode A → Type 0
-    MergedSoFar k now = ReachesWhatShown old (λ o. AreNamedOfNumbers o (members_plain (take k ps))) (MembersMergeIn A tokens (members_plain (take k ps))) now
+    MergedSoFar k now = ReachesWhatShown old (λ o. AreNamedOfNumbers o (members_plain (take k ps))) (MembersMergeIn tokens (members_plain (take k ps))) now
 
     pub merged_none : MergedSoFar 0 old
-    merged_none = reached_same old old (λ o. AreNamedOfNumbers o no_members) (MembersMergeIn A tokens no_members) refl (λ d shown. merging.no_more)
+    merged_none = reached_same old old (λ o. AreNamedOfNumbers o no_members) (MembersMergeIn tokens no_members) refl (λ d shown. merging.no_more)
 
-    pub merged_all : (k : ℕ) (now : CstRootNode A) → length ps ≤ k → MergedSoFar k now → ReachesWhatShown old (λ o. AreNamedOfNumbers o (members_plain ps)) (MembersMergeIn A tokens (members_plain ps)) now
-    merged_all k now h so_far = subst (λ (l : List (String A × CstInputValue A)). ReachesWhatShown old (λ o. AreNamedOfNumbers o (members_plain l)) (MembersMergeIn A tokens (members_plain l)) now) (take_all k ps h) so_far
+    pub merged_all : (k : ℕ) (now : CstRootNode A) → length ps ≤ k → MergedSoFar k now → ReachesWhatShown old (λ o. AreNamedOfNumbers o (members_plain ps)) (MembersMergeIn tokens (members_plain ps)) now
+    merged_all k now h so_far = subst (λ (l : List (String A × CstInputValue A)). ReachesWhatShown old (λ o. AreNamedOfNumbers o (members_plain l)) (MembersMergeIn tokens (members_plain l)) now) (take_all k ps h) so_far
 
     module _ (k : ℕ) (now : CstRootNode A) (so_far : MergedSoFar k now) (q : String A × CstInputValue A) (h : k < length ps) (is : q ≡ get_or ps k q) where
       abbrev one : Members
       one = member (chars_of q.0) (plain q.1) no_members
 
-      pub merged_more : (new : CstRootNode A) → ReachesWhatShown now (λ o. IsOfNumbers o (plain q.1)) (MembersMergeIn A tokens one) new → MergedSoFar (k + 1) new
+      pub merged_more : (new : CstRootNode A) → ReachesWhatShown now (λ o. IsOfNumbers o (plain q.1)) (MembersMergeIn tokens one) new → MergedSoFar (k + 1) new
       merged_more new step d shown fit =
           let more = plain_more ps k q h is in
           let all : AreNamedOfNumbers d.options (and_then (members_plain (take k ps)) one) = subst (AreNamedOfNumbers d.options) more fit in
@@ -134,7 +134,7 @@ module _ {A : Type 0} where
             record {
               within = λ h. s.2.within (f.2.within h);
               options = s.2.options ∙ f.2.options;
-              leads = subst (λ ms. MembersMergeIn A tokens ms d s.0) (sym more) (merge_more one f.2.leads s.2.leads);
+              leads = subst (λ ms. MembersMergeIn tokens ms d s.0) (sym more) (merge_more one f.2.leads s.2.leads);
             },
           )
 
@@ -241,41 +241,41 @@ module _ {A : Type 0} where
 
 -- the patch is merged
 module _ {A : Type 0} (old new : CstRootNode A) (tokens : List (List ℕ)) where
-  pub merged_inside : (ms : Members) → IsOfShown old (λ d. RefersToObject d.value tokens) → ReachesWhatShown old (λ o. AreNamedOfNumbers o ms) (MembersMergeIn A tokens ms) new → ReachesWhatShown old (λ o. IsOfNumbers o (object ms)) (MergesIn A tokens (object ms)) new
-  merged_inside ms at reached = reached_as old new (λ o. AreNamedOfNumbers o ms) (λ o. IsOfNumbers o (object ms)) (MembersMergeIn A tokens ms) (MergesIn A tokens (object ms)) reached (λ o fit. fit) (λ d shown e m. inside (at d shown).1 m)
+  pub merged_inside : (ms : Members) → IsOfShown old (λ d. RefersToObject d.value tokens) → ReachesWhatShown old (λ o. AreNamedOfNumbers o ms) (MembersMergeIn tokens ms) new → ReachesWhatShown old (λ o. IsOfNumbers o (object ms)) (MergesIn tokens (object ms)) new
+  merged_inside ms at reached = reached_as old new (λ o. AreNamedOfNumbers o ms) (λ o. IsOfNumbers o (object ms)) (MembersMergeIn tokens ms) (MergesIn tokens (object ms)) reached (λ o fit. fit) (λ d shown e m. inside (at d shown).1 m)
 
   pub stopped_inside : (ms : Members) (cause : PatchCause A) → IsOfShown old (λ d. RefersToObject d.value tokens) → FailsToMergeAll old tokens ms cause → FailsToMerge old tokens (object ms) cause
   stopped_inside ms cause at fails d shown fit place = stop_inside tokens (object ms) d.value cause (fails d shown fit (at d shown))
 
-  pub merged_set : (p : Plain) → IsOfShown old (λ d. ¬ (GoesInto p tokens d.value)) → ReachesWhatShown old (λ o. IsOfNumbers o p) (Sets A tokens p) new → ReachesWhatShown old (λ o. IsOfNumbers o p) (MergesIn A tokens p) new
-  merged_set p none reached = reached_as old new (λ o. IsOfNumbers o p) (λ o. IsOfNumbers o p) (Sets A tokens p) (MergesIn A tokens p) reached (λ o fit. fit) (λ d shown e m. m (none d shown))
+  pub merged_set : (p : Plain) → IsOfShown old (λ d. ¬ (GoesInto p tokens d.value)) → ReachesWhatShown old (λ o. IsOfNumbers o p) (Sets tokens p) new → ReachesWhatShown old (λ o. IsOfNumbers o p) (MergesIn tokens p) new
+  merged_set p none reached = reached_as old new (λ o. IsOfNumbers o p) (λ o. IsOfNumbers o p) (Sets tokens p) (MergesIn tokens p) reached (λ o fit. fit) (λ d shown e m. m (none d shown))
 
-  pub set_same : (p : Plain) → tree_of new ≡ tree_of old → IsOfShown old (λ d. IsThere (made_of p) tokens d.value) → ReachesWhatShown old (λ o. IsOfNumbers o p) (Sets A tokens p) new
-  set_same p same there = reached_same old new (λ o. IsOfNumbers o p) (Sets A tokens p) same (λ d shown. stands_there tokens p d (there d shown))
+  pub set_same : (p : Plain) → tree_of new ≡ tree_of old → IsOfShown old (λ d. IsThere (made_of p) tokens d.value) → ReachesWhatShown old (λ o. IsOfNumbers o p) (Sets tokens p) new
+  set_same p same there = reached_same old new (λ o. IsOfNumbers o p) (Sets tokens p) same (λ d shown. stands_there tokens p d (there d shown))
 
-  pub set_other : (p v : Plain) → v ≡ made_of p → IsOfShown old (λ d. ¬ (IsThere (made_of p) tokens d.value)) → MakesWhatShown old (value.add tokens v) (λ o. IsOfNumbers o v) new → ReachesWhatShown old (λ o. IsOfNumbers o p) (Sets A tokens p) new
+  pub set_other : (p v : Plain) → v ≡ made_of p → IsOfShown old (λ d. ¬ (IsThere (made_of p) tokens d.value)) → MakesWhatShown old (value.add tokens v) (λ o. IsOfNumbers o v) new → ReachesWhatShown old (λ o. IsOfNumbers o p) (Sets tokens p) new
   set_other p v is other made =
-      reached_by old new (value.add tokens v) (λ o. IsOfNumbers o v) (λ o. IsOfNumbers o p) (Sets A tokens p) made (λ o fit. subst (IsOfNumbers o) (sym is) (number_made o p fit))
-      (λ d shown e adds. is_put tokens p d e (other d shown) (subst (λ q. IsMade A (value.add tokens q) d e) is adds))
+      reached_by old new (value.add tokens v) (λ o. IsOfNumbers o v) (λ o. IsOfNumbers o p) (Sets tokens p) made (λ o fit. subst (IsOfNumbers o) (sym is) (number_made o p fit))
+      (λ d shown e adds. is_put tokens p d e (other d shown) (subst (λ q. IsMade (value.add tokens q) d e) is adds))
 
-  pub drops_one : MakesWhatShown old (value.remove tokens) (λ o. Unit {0}) new → ReachesWhatShown old (λ o. Unit {0}) (Drops A tokens) new
-  drops_one made = reached_by old new (value.remove tokens) (λ o. Unit {0}) (λ o. Unit {0}) (Drops A tokens) made (λ o fit. fit) (λ d shown e r. inl r)
+  pub drops_one : MakesWhatShown old (value.remove tokens) (λ o. Unit {0}) new → ReachesWhatShown old (λ o. Unit {0}) (Drops tokens) new
+  drops_one made = reached_by old new (value.remove tokens) (λ o. Unit {0}) (λ o. Unit {0}) (Drops tokens) made (λ o fit. fit) (λ d shown e r. inl r)
 
-  pub drops_none : tree_of new ≡ tree_of old → FailsWhatShown old (value.remove tokens) causes.NoTarget → ReachesWhatShown old (λ o. Unit {0}) (Drops A tokens) new
-  drops_none same fails = reached_same old new (λ o. Unit {0}) (Drops A tokens) same (λ d shown. inr (fails d shown, refl))
+  pub drops_none : tree_of new ≡ tree_of old → FailsWhatShown old (value.remove tokens) causes.NoTarget → ReachesWhatShown old (λ o. Unit {0}) (Drops tokens) new
+  drops_none same fails = reached_same old new (λ o. Unit {0}) (Drops tokens) same (λ d shown. inr (fails d shown, refl))
 
-  pub named_null : (p : Plain) → p ≡ null → ReachesWhatShown old (λ o. Unit {0}) (Drops A tokens) new → ReachesWhatShown old (λ o. IsOfNumbers o p) (MergesNamed A tokens p) new
-  named_null p is reached = reached_as old new (λ o. Unit {0}) (λ o. IsOfNumbers o p) (Drops A tokens) (MergesNamed A tokens p) reached (λ o fit. tt) (λ d shown e drops. (λ nothing. drops, λ ne. absurd (ne is)))
+  pub named_null : (p : Plain) → p ≡ null → ReachesWhatShown old (λ o. Unit {0}) (Drops tokens) new → ReachesWhatShown old (λ o. IsOfNumbers o p) (MergesNamed tokens p) new
+  named_null p is reached = reached_as old new (λ o. Unit {0}) (λ o. IsOfNumbers o p) (Drops tokens) (MergesNamed tokens p) reached (λ o fit. tt) (λ d shown e drops. (λ nothing. drops, λ ne. absurd (ne is)))
 
-  pub named_other : (p : Plain) → p ≢ null → ReachesWhatShown old (λ o. IsOfNumbers o p) (MergesIn A tokens p) new → ReachesWhatShown old (λ o. IsOfNumbers o p) (MergesNamed A tokens p) new
-  named_other p other reached = reached_as old new (λ o. IsOfNumbers o p) (λ o. IsOfNumbers o p) (MergesIn A tokens p) (MergesNamed A tokens p) reached (λ o fit. fit) (λ d shown e m. (λ nothing. absurd (other nothing), λ ne. m))
+  pub named_other : (p : Plain) → p ≢ null → ReachesWhatShown old (λ o. IsOfNumbers o p) (MergesIn tokens p) new → ReachesWhatShown old (λ o. IsOfNumbers o p) (MergesNamed tokens p) new
+  named_other p other reached = reached_as old new (λ o. IsOfNumbers o p) (λ o. IsOfNumbers o p) (MergesIn tokens p) (MergesNamed tokens p) reached (λ o fit. fit) (λ d shown e m. (λ nothing. absurd (other nothing), λ ne. m))
 
-  pub one_member : (name : List ℕ) (p : Plain) → ReachesWhatShown old (λ o. IsOfNumbers o p) (MergesNamed A (tokens ++ name ∷ []) p) new → ReachesWhatShown old (λ o. IsOfNumbers o p) (MembersMergeIn A tokens (member name p no_members)) new
-  one_member name p reached = reached_as old new (λ o. IsOfNumbers o p) (λ o. IsOfNumbers o p) (MergesNamed A (tokens ++ name ∷ []) p) (MembersMergeIn A tokens (member name p no_members)) reached (λ o fit. fit) (λ d shown e m. named_member tokens name p d e m)
+  pub one_member : (name : List ℕ) (p : Plain) → ReachesWhatShown old (λ o. IsOfNumbers o p) (MergesNamed (tokens ++ name ∷ []) p) new → ReachesWhatShown old (λ o. IsOfNumbers o p) (MembersMergeIn tokens (member name p no_members)) new
+  one_member name p reached = reached_as old new (λ o. IsOfNumbers o p) (λ o. IsOfNumbers o p) (MergesNamed (tokens ++ name ∷ []) p) (MembersMergeIn tokens (member name p no_members)) reached (λ o fit. fit) (λ d shown e m. named_member tokens name p d e m)
 
   -- of the value that the patch is
-  pub merged_value : (p q : Plain) → p ≡ q → ReachesWhatShown old (λ o. IsOfNumbers o q) (MergesIn A tokens q) new → ReachesWhatShown old (λ o. IsOfNumbers o p) (MergesIn A tokens p) new
-  merged_value p q is reached = subst (λ k. ReachesWhatShown old (λ o. IsOfNumbers o k) (MergesIn A tokens k) new) (sym is) reached
+  pub merged_value : (p q : Plain) → p ≡ q → ReachesWhatShown old (λ o. IsOfNumbers o q) (MergesIn tokens q) new → ReachesWhatShown old (λ o. IsOfNumbers o p) (MergesIn tokens p) new
+  merged_value p q is reached = subst (λ k. ReachesWhatShown old (λ o. IsOfNumbers o k) (MergesIn tokens k) new) (sym is) reached
 
   pub failed_value : (p q : Plain) (cause : PatchCause A) → p ≡ q → FailsToMerge old tokens q cause → FailsToMerge old tokens p cause
   failed_value p q cause is fails = subst (λ k. FailsToMerge old tokens k cause) (sym is) fails

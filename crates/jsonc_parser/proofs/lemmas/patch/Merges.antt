@@ -53,11 +53,11 @@ module _ {S : Type 0} (value_of : S → Option Plain) (Leads : Operation → S �
     members_merge_value (merging.merged some m more) = merging.merged some (merges_value m) (members_merge_value more)
 
 -- of documents
-pub merges_value_of : {A : Type 0} {tokens : List (List ℕ)} {p : Plain} {d e : Document} → MergesIn A tokens p d e → Merges tokens p d.value e.value
-merges_value_of {A} m = merges_value (λ (x : Document). x.value) (IsMade A) (λ o w y made. made.made) m
+pub merges_value_of : {tokens : List (List ℕ)} {p : Plain} {d e : Document} → MergesIn tokens p d e → Merges tokens p d.value e.value
+merges_value_of m = merges_value (λ (x : Document). x.value) IsMade (λ o w y made. made.made) m
 
-pub members_merge_value_of : {A : Type 0} {tokens : List (List ℕ)} {ms : Members} {d e : Document} → MembersMergeIn A tokens ms d e → MembersMerge tokens ms d.value e.value
-members_merge_value_of {A} m = members_merge_value (λ (x : Document). x.value) (IsMade A) (λ o w y made. made.made) m
+pub members_merge_value_of : {tokens : List (List ℕ)} {ms : Members} {d e : Document} → MembersMergeIn tokens ms d e → MembersMerge tokens ms d.value e.value
+members_merge_value_of m = members_merge_value (λ (x : Document). x.value) IsMade (λ o w y made. made.made) m
 
 -- numbers of members, and of what is made of them
 pub numbers_before : (o : Options) (ms ns : Members) → AreNamedOfNumbers o (and_then ms ns) → AreNamedOfNumbers o ms
@@ -115,12 +115,12 @@ made_other (array vs) no_object = refl
 made_other (object ms) no_object = absurd (no_object ms refl)
 
 -- one member
-pub named_member : {A : Type 0} (tokens : List (List ℕ)) (name : List ℕ) (p : Plain) (d e : Document) → MergesNamed A (tokens ++ name ∷ []) p d e → MembersMergeIn A tokens (member name p no_members) d e
-named_member {A} tokens name null d e m = dropped (m.0 refl)
+pub named_member : (tokens : List (List ℕ)) (name : List ℕ) (p : Plain) (d e : Document) → MergesNamed (tokens ++ name ∷ []) p d e → MembersMergeIn tokens (member name p no_members) d e
+named_member tokens name null d e m = dropped (m.0 refl)
   where
-    dropped : Drops A (tokens ++ name ∷ []) d e → MembersMergeIn A tokens (member name null no_members) d e
+    dropped : Drops (tokens ++ name ∷ []) d e → MembersMergeIn tokens (member name null no_members) d e
     dropped (inl removes) = merging.removed removes merging.no_more
-    dropped (inr stays) = subst (λ k. MembersMergeIn A tokens (member name null no_members) d k) (sym stays.1) (merging.absent stays.0 merging.no_more)
+    dropped (inr stays) = subst (λ k. MembersMergeIn tokens (member name null no_members) d k) (sym stays.1) (merging.absent stays.0 merging.no_more)
 named_member tokens name (boolean b) d e m = merging.merged (λ e. cc) (m.1 (λ e. cc)) merging.no_more
 named_member tokens name (number s) d e m = merging.merged (λ e. cc) (m.1 (λ e. cc)) merging.no_more
 named_member tokens name (string s) d e m = merging.merged (λ e. cc) (m.1 (λ e. cc)) merging.no_more
@@ -135,10 +135,10 @@ pub goes_nowhere : (p : Plain) (tokens : List (List ℕ)) (w : Option Plain) →
 goes_nowhere p tokens w none (ms, ns, is, refers) = none (ns, refers)
 
 -- it is there, or is put
-pub stands_there : {A : Type 0} (tokens : List (List ℕ)) (p : Plain) (d : Document) → IsThere (made_of p) tokens d.value → Sets A tokens p d d
+pub stands_there : (tokens : List (List ℕ)) (p : Plain) (d : Document) → IsThere (made_of p) tokens d.value → Sets tokens p d d
 stands_there tokens p d there none = same none there
 
-pub is_put : {A : Type 0} (tokens : List (List ℕ)) (p : Plain) (d e : Document) → ¬ (IsThere (made_of p) tokens d.value) → IsMade A (add tokens (made_of p)) d e → Sets A tokens p d e
+pub is_put : (tokens : List (List ℕ)) (p : Plain) (d e : Document) → ¬ (IsThere (made_of p) tokens d.value) → IsMade (add tokens (made_of p)) d e → Sets tokens p d e
 is_put tokens p d e other made none = put none other made
 
 -- whether a value that was read is equal to another

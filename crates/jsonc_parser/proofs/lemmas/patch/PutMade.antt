@@ -15,6 +15,7 @@ use Rattle.jsonc_sound.specs.Documents.{Shows}
 use Rattle.jsonc_run.specs.declared.edit.Edit.{Edit}
 use Rattle.jsonc_run.specs.Depth.{needs_in}
 use Rattle.jsonc_run.specs.Edits.{EditStep, PlainEdit, operation_of, unsorted}
+use Rattle.jsonc_run.specs.promise.Within.{KeepsWithin}
 use Rattle.jsonc_run.specs.Named.{comment_count, Asks}
 use Rattle.jsonc_run.specs.Refusals.{FailsWith}
 use Rattle.jsonc_run.specs.texts.Edits as texts
@@ -24,7 +25,7 @@ use Rattle.jsonc_cst.specs.declared.cst.CstRootNode.{CstRootNode}
 use Rattle.jsonc_cst.specs.Document.{nodes_of}
 use Rattle.jsonc_parser.specs.paths.Calls.{FitsAt}
 use Rattle.jsonc_parser.specs.paths.Settings.{nest}
-use Rattle.jsonc_parser.specs.patch.Applied.{IsEditDone, IsNoRoom}
+use Rattle.jsonc_parser.specs.patch.Applied.{IsNoRoom}
 use Rattle.jsonc_parser.specs.patch.Found.{IsOfShown}
 use Rattle.jsonc_parser.specs.patch.Putting.{IsWrittenBy, sets_root, sets_first, replaces, appends_member, appends_element, replaces_other, IsPutBy}
 use Rattle.jsonc_parser.specs.patch.PutCalls.{FailsToPut, IsPutError, PutsWhatShown}
@@ -62,7 +63,7 @@ module _ {A : Type 0} (old new : CstRootNode A) (tree : IsTree (nodes_of old)) (
     abbrev asked : PlainEdit
     asked = operation_of unsorted edit
 
-    pub put_made : IsTree (nodes_of new) → IsEditDone old edit new → PutsWhatShown old v over tokens new
+    pub put_made : IsTree (nodes_of new) → EditStep (nodes_of old) asked (nodes_of new) × KeepsWithin (nodes_of old) asked (nodes_of new) → PutsWhatShown old v over tokens new
     put_made after made d shown =
         let by = chosen.1 d shown in (
           asked,

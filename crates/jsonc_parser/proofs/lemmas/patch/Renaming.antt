@@ -1,30 +1,30 @@
 -- A member that gets another name, as a move.
-use Rattle.std.proofs.Common.{ℕ, suc, ◌≡◌, ◌<◌, ◌≤◌, ◌∙◌, ◌++◌, inl, inr, sym, ap, subst, refl, true, false, List, [], ◌∷◌, length, map, Option, Some, None, IfNone, arith}
+use Rattle.std.proofs.Common.{ℕ, suc, ◌≡◌, ◌<◌, ◌≤◌, ◌∙◌, ◌++◌, inl, inr, sym, ap, subst, refl, true, false, List, [], ◌∷◌, length, Option, Ok, Some, None, IfNone, arith}
 use Rattle.std.specs.Bool.{Decides}
 use Rattle.std.proofs.lemmas.Bool.{false≢true}
 use Rattle.std.proofs.lemmas.List.{append-nil}
-use Rattle.std.specs.declared.string.String.{String}
-use Rattle.std.specs.declared.vec.Vec.{Vec}
 use Rattle.jsonc_text.specs.Documents.{Document}
 use Rattle.jsonc_text.specs.Plain.{Plain, array, object, Items, Members}
-use Rattle.jsonc_tree.specs.Tree.{IsTree}
-use Rattle.jsonc_edit.specs.Paths.{IsAt}
-use Rattle.jsonc_edit.proofs.Uniqueness.{path_once}
+use Rattle.jsonc_text.specs.declared.edit.EditError.{EditError}
+use Rattle.jsonc_tree.specs.Tree.{Node, IsTree}
+use Rattle.jsonc_insert.specs.named.Places.{IsPropertyAt}
 use Rattle.jsonc_insert.specs.elements.Members.{member_count}
+use Rattle.jsonc_layout.specs.from_input.Texts.{IsCharacters}
 use Rattle.jsonc_layout.specs.input.Views.{chars_of}
-use Rattle.jsonc_run.specs.declared.edit.Edit.{Edit}
-use Rattle.jsonc_run.specs.declared.edit.Edit.TheVariants.{RenameProperty}
-use Rattle.jsonc_run.specs.Edits.{operation_of, rename_property, unsorted}
+use Rattle.jsonc_run.specs.Edits.{rename_property, PlainEdit}
+use Rattle.jsonc_run.proofs.EditsMade.{property_not_alone}
+use Rattle.jsonc_run.proofs.NamedPlaces.{places_named}
 use Rattle.jsonc_run.specs.Named.{HasPropertyAt}
 use Rattle.jsonc_run.specs.texts.Edits as texts
-use Rattle.jsonc_run.specs.texts.Edits.{BecomesProperty, Operation}
+use Rattle.jsonc_run.specs.texts.Edits.{BecomesProperty}
 use Rattle.jsonc_run.proofs.lemmas.promise.Plains.{stands_there}
 use Rattle.jsonc_sound.specs.Documents.{Shows}
 use Rattle.jsonc_cst.specs.declared.cst.CstRootNode.{CstRootNode}
 use Rattle.jsonc_cst.specs.declared.cst.node.CstNode.{CstNode}
 use Rattle.jsonc_cst.specs.Document.{nodes_of, tree_of}
 use Rattle.jsonc_cst.specs.Nodes.{number_of}
-use Rattle.jsonc_parser.specs.patch.Applied.{IsEditDone, FailsWhatShown, IsCause, IsNoMemory, IsPathless, IsRefusal, IsUnfound, LeadsOn}
+use Rattle.jsonc_cst.specs.typed.There.{entry_above, IsMadeThere, IsRefusedThere}
+use Rattle.jsonc_parser.specs.patch.Applied.{FailsWhatShown, IsCause, IsUnfound, LeadsOn}
 use Rattle.jsonc_parser.specs.patch.Found.{IsOfShown, RefersToNode, RefersToNothing}
 use Rattle.jsonc_parser.specs.patch.MergeSteps.{IsTwice, RefersToObject}
 use Rattle.jsonc_parser.specs.patch.MadeBy as by
@@ -35,10 +35,11 @@ use Rattle.jsonc_parser.specs.patch.Renaming.{AreBeside, FailsToRename, IsRenami
 use Rattle.jsonc_parser.specs.declared.patch.making.PatchCause.{PatchCause}
 use Rattle.jsonc_parser.specs.declared.patch.making.PatchCause.TheVariants as causes
 use Rattle.jsonc_parser.proofs.lemmas.patch.Evaluation.{behind, fails_further, index_once, item_once, member_further, never_both, object_stops, only_of_more, only_once, refers_changed}
-use Rattle.jsonc_parser.proofs.lemmas.patch.Failing.{fails_longer, has_path, memory_cause, refusal_memory, unedited, unmoved}
+use Rattle.jsonc_parser.proofs.lemmas.patch.Failing.{fails_longer, unmoved}
 use Rattle.jsonc_parser.proofs.lemmas.patch.Exclusive.{no_last, same_last}
-use Rattle.jsonc_parser.proofs.lemmas.patch.Made.{led, does_so, options_so}
+use Rattle.jsonc_parser.proofs.lemmas.patch.Made.{does_so, options_so}
 use Rattle.jsonc_parser.proofs.lemmas.patch.Operating.{name_cases, nothing_more}
+use Rattle.jsonc_parser.proofs.lemmas.patch.There.{led_there, room_there, under_property_at}
 
 -- the one member of a name has one place, and is one of the members
 only_place : {name : List ℕ} {v w : Plain} {i j : ℕ} {ms : Members} → IsOnly name v i ms → IsOnly name w j ms → i ≡ j
@@ -93,37 +94,43 @@ property_there {x} {v} {ns} {tokens} {q} {p} w last is holder r =
       ]
     ]
 
-module _ {A : Type 0} (old new : CstRootNode A) (tree : IsTree (nodes_of old)) (node : CstNode) (path : Vec ℕ A) (at : IsAt (nodes_of old) path.items (number_of node)) (name : String A) (last : List ℕ) (is : chars_of name ≡ last) where
-  pub renames_so : IsTree (nodes_of new) → IsEditDone old (RenameProperty path name) new → RenamesAt old node last new
-  renames_so after made from to r d shown fit =
-      let edit : Edit A = RenameProperty path name in
-      let l = led edit (nodes_of old) (nodes_of new) tree after made d shown tt in
+-- the property of a member that tokens refer to
+property_of : {A : Type 0} (doc : CstRootNode A) → IsTree (nodes_of doc) → (node : CstNode) (last : List ℕ) (from to : List (List ℕ)) → IsRenaming doc from to node last → (d : Document) → Shows d (tree_of doc) → (w : RefersToNode d (nodes_of doc) from (number_of node))
+    → HasPropertyAt w.path d.value × IsPropertyAt (nodes_of doc) w.path (entry_above (nodes_of doc) (number_of node))
+property_of doc tree node last from to r d shown w =
+    let ns : List Node = nodes_of doc in
+    let o = r.object d shown in
+    let there : Refers o.1.0 (r.tokens ++ r.beside.last ∷ []) w.path w.v = subst (λ l. Refers o.1.0 l w.path w.v) r.beside.first (subst (λ k. Refers k from w.path w.v) (same_value w.value o.1.0 d.value w.is o.1.1) w.refers) in
+    let has : HasPropertyAt w.path d.value = property_there d.value r.beside.last o.1.1 o.1.3 there in
+    let named : (r : ℕ) × IsPropertyAt ns w.path r = (places_named d.options ns (rename_property w.path last) tree shown.sound d.value shown.value).1 has in
+    (has, under_property_at ns tree w.path (number_of node) named.0 w.at named.1)
+
+module _ {A : Type 0} (old new : CstRootNode A) (tree : IsTree (nodes_of old)) (node : CstNode) (last : List ℕ) where
+  pub renames_so : IsTree (nodes_of new) → IsCharacters last → {x : Unit {0}} → ((path : List ℕ) → IsMadeThere old new (entry_above (nodes_of old) (number_of node)) (rename_property path last) (Ok x)) → RenamesAt old node last new
+  renames_so after characters made from to r d shown fit =
+      let ns : List Node = nodes_of old in
+      let n : ℕ = entry_above ns (number_of node) in
       let w = r.refers d shown in
-      let over : w.path ≡ path.items = path_once (nodes_of old) tree w.path path.items (number_of node) w.at at in
-      let op : Operation = texts.rename_property path.items (chars_of name) in
-      let m = does_so d l.e l.op op l.asks.1 l.makes in
-      let becomes : BecomesProperty (λ e. record { name = last; value = e.value }) path.items d.value l.e.value = subst (λ k. BecomesProperty (λ e. record { name = k; value = e.value }) path.items d.value l.e.value) is m.1 in
-      let stands : RefersAlong d.value from path.items w.v = subst (λ p. RefersAlong d.value from p w.v) over (w.value, w.is, w.refers) in
+      let edit : PlainEdit = rename_property w.path last in
+      let at = (property_of old tree node last from to r d shown w).1 in
+      let l = led_there ns (nodes_of new) tree after n edit (λ Is h. (n, at, h)) characters (made w.path).made (λ deep. omega (arith, deep.2)) d shown tt in
+      let m = does_so d l.e l.op (texts.rename_property w.path last) l.asks.1 l.makes in
+      let becomes : BecomesProperty (λ e. record { name = last; value = e.value }) w.path d.value l.e.value = m.1 in
+      let stands : RefersAlong d.value from w.path w.v = (w.value, w.is, w.refers) in
       let none = r.nothing d shown in
       let nothing : ReferToNothing d.value (r.tokens ++ last ∷ []) = subst (ReferToNothing d.value) r.beside.second (none.nothing, none.unique) in
       let moves : Moves from to d.value l.e.value = subst (λ t. Moves from t d.value l.e.value) (sym r.beside.second) (renamed r.tokens r.beside.last last r.beside.first stands nothing becomes) in
       let o = r.object d shown in
       let beside : IsWithinObject from to d.value = record { tokens = r.tokens; last = r.beside.last; name = last; members = o.0; first = r.beside.first; second = r.beside.second; object = o.1; nothing = (none.nothing, none.unique) } in
-      let own : by.IsMadeBy d.value (value.move from to) (map (operation_of unsorted) (edit ∷ [])) = subst (λ k. by.IsMadeBy d.value (value.move from to) (rename_property path.items k ∷ [])) (sym is) (by.renames beside stands) in
-      (l.e, l.shown, record { edits = edit ∷ []; own = own; edited = l.edited; within = l.within; options = options_so d l.e l.op op l.asks.1 l.options; made = moves })
+      (l.e, l.shown, record { edits = edit ∷ []; ops = l.ops; own = by.renames beside stands; edited = l.edited; within = l.within; options = options_so d l.e l.op (texts.rename_property w.path last) l.asks.1 l.options; made = moves })
 
-module _ {A : Type 0} (doc : CstRootNode A) (tree : IsTree (nodes_of doc)) (node : CstNode) (c : PatchCause A) where
-  pub renames_not : (path : Vec ℕ A) → IsAt (nodes_of doc) path.items (number_of node) → (name : String A) (last : List ℕ) → IsRefusal doc (RenameProperty path name) c → FailsToRename doc node last c
-  renames_not path at name last reported from to r d shown =
+  pub renames_not : (why : EditError) → ((path : List ℕ) → IsRefusedThere (nodes_of old) (entry_above (nodes_of old) (number_of node)) (rename_property path last) why) → FailsToRename old node last (causes.Edit why)
+  renames_not why k from to r d shown =
+      let ns : List Node = nodes_of old in
+      let n : ℕ = entry_above ns (number_of node) in
       let w = r.refers d shown in
-      let o = r.object d shown in
-      let over : w.path ≡ path.items = path_once (nodes_of doc) tree w.path path.items (number_of node) w.at at in
-      let there : Refers o.1.0 (r.tokens ++ r.beside.last ∷ []) w.path w.v = subst (λ l. Refers o.1.0 l w.path w.v) r.beside.first (subst (λ k. Refers k from w.path w.v) (same_value w.value o.1.0 d.value w.is o.1.1) w.refers) in
-      let has : HasPropertyAt path.items d.value = subst (λ p. HasPropertyAt p d.value) over (property_there d.value r.beside.last o.1.1 o.1.3 there) in
-      memory_cause (value.move from to) d.value c (refusal_memory doc tree (RenameProperty path name) (λ h. h, λ h. h) c reported d shown has)
-
-  pub pathless_name : (last : List ℕ) → IsPathless doc node c → FailsToRename doc node last c
-  pathless_name last is from to r d shown = memory_cause (value.move from to) d.value c (unedited c (has_path doc from node r.refers c is d shown))
+      let p = property_of old tree node last from to r d shown w in
+      room_there ns tree n (rename_property w.path last) (λ Is h. (n, p.1, h)) (property_not_alone ns tree w.path n p.1) (λ h. h) (λ h. h, λ h. h) d shown p.0 why (k w.path)
 
 -- two lists of tokens with the same beginning
 pub same_front : {tokens others : List (List ℕ)} → LeadsOn tokens others → length tokens ≡ length others → tokens ≡ others

@@ -1,6 +1,5 @@
 use Rattle.std.proofs.Common.{◌∙◌, chars, sym}
 use Rattle.jsonc_layout.specs.input.Views.{plain}
-use Rattle.jsonc_parser.specs.patch.Pointer.{tokens_of}
 use Rattle.jsonc_parser.proofs.lemmas.patch.Edited.{kept_same}
 use Rattle.jsonc_parser.proofs.lemmas.patch.Failing.{no_container}
 use Rattle.jsonc_parser.proofs.lemmas.patch.Steps.{array_by, no_array_by, no_object_by, object_by}
@@ -20,4 +19,4 @@ returns-clause-fails g c =
     let doc = c.args.doc.now in
     let no_object = no_object_by doc doc.tree.tree c.args.container c.requires c.as_object.result c.as_object.ensures (sym c.is_some-2.ensures ∙ c.if-is_some-2.false) in
     let no_array = no_array_by doc doc.tree.tree c.args.container c.requires c.as_array.result c.as_array.ensures (sym c.is_some.ensures ∙ c.if-is_some.false) in
-    no_container doc doc.tree.tree c.args.container (tokens_of c.args.pointer.now) (chars c.args.token.now) (plain c.args.value) no_object no_array
+    no_container doc doc.tree.tree c.args.container (chars c.args.token.now) (plain c.args.value.now) no_object no_array

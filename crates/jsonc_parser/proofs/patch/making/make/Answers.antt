@@ -1,32 +1,20 @@
 use Rattle.std.proofs.Common.{refl}
 use Rattle.jsonc_layout.specs.input.Views.{plain}
 use Rattle.jsonc_cst.specs.Document.{nodes_of}
-use Rattle.jsonc_parser.specs.patch.Operations as value
 use Rattle.jsonc_parser.specs.patch.Pointer.{tokens_of}
 use Rattle.jsonc_parser.specs.declared.patch.operation.Operation.TheVariants.{Add, Remove, Replace, Move, Copy, Test}
-use Rattle.jsonc_parser.proofs.lemmas.patch.Chains.{added_value, as_asked, fails_added, fails_asked, fails_replaced, kept_anyhow, moves_anyhow, replaced_value, tested, unchanged_kept}
+use Rattle.jsonc_parser.proofs.lemmas.patch.Chains.{as_asked, fails_asked, kept_anyhow, moves_anyhow, tested, unchanged_kept}
 use Rattle.jsonc_parser.proofs.lemmas.patch.Contents.{contents_unchanged}
-use Rattle.jsonc_parser.proofs.lemmas.patch.Edited.{kept_same}
 use Rattle.jsonc_parser.proofs.patch.making.make.Goals as goal
 
-pub returns-in-Ok-clause-made : goal.returns-in-Ok-clause-made
-returns-in-Ok-clause-made g c =
-    let v = c.in-Add.value in
-    as_asked c.args.doc.now c.add.new.doc c.add.result c.args.operation.now (Add c.in-Add.path v) c.in-Add.is (added_value c.args.doc.now c.add.new.doc c.add.result (tokens_of c.in-Add.path) (plain v) (plain c.in-Ok.value) c.in-Ok.ensures.value c.add.ensures.made)
+pub returns-in-Add-clause-made : goal.returns-in-Add-clause-made
+returns-in-Add-clause-made g c = as_asked c.args.doc.now c.add.new.doc c.add.result c.args.operation.now (Add c.in-Add.path c.in-Add.value) c.in-Add.is c.add.ensures.made
 
-pub returns-in-Ok-clause-kept : goal.returns-in-Ok-clause-kept
-returns-in-Ok-clause-kept g c = kept_anyhow c.args.doc.now c.add.new.doc c.add.result c.args.operation.now c.add.ensures.kept
+pub returns-in-Add-clause-kept : goal.returns-in-Add-clause-kept
+returns-in-Add-clause-kept g c = kept_anyhow c.args.doc.now c.add.new.doc c.add.result c.args.operation.now c.add.ensures.kept
 
-pub returns-in-Ok-clause-fails : goal.returns-in-Ok-clause-fails
-returns-in-Ok-clause-fails g c =
-    let v = c.in-Add.value in
-    fails_asked c.args.doc.now c.add.new.doc c.add.result c.args.operation.now (Add c.in-Add.path v) c.in-Add.is (fails_added c.args.doc.now c.add.result (tokens_of c.in-Add.path) (plain v) (plain c.in-Ok.value) c.in-Ok.ensures.value c.add.ensures.fails)
-
-pub returns-in-Err-clause-kept : goal.returns-in-Err-clause-kept
-returns-in-Err-clause-kept g c = λ one. kept_same c.args.doc.now
-
-pub returns-in-Err-clause-fails : goal.returns-in-Err-clause-fails
-returns-in-Err-clause-fails g c = λ d shown. tt
+pub returns-in-Add-clause-fails : goal.returns-in-Add-clause-fails
+returns-in-Add-clause-fails g c = fails_asked c.args.doc.now c.add.new.doc c.add.result c.args.operation.now (Add c.in-Add.path c.in-Add.value) c.in-Add.is c.add.ensures.fails
 
 pub returns-in-Remove-clause-made : goal.returns-in-Remove-clause-made
 returns-in-Remove-clause-made g c = as_asked c.args.doc.now c.remove.new.doc c.remove.result c.args.operation.now (Remove c.in-Remove.path) c.in-Remove.is c.remove.ensures.made
@@ -37,26 +25,14 @@ returns-in-Remove-clause-kept g c = kept_anyhow c.args.doc.now c.remove.new.doc 
 pub returns-in-Remove-clause-fails : goal.returns-in-Remove-clause-fails
 returns-in-Remove-clause-fails g c = fails_asked c.args.doc.now c.remove.new.doc c.remove.result c.args.operation.now (Remove c.in-Remove.path) c.in-Remove.is c.remove.ensures.fails
 
-pub returns-in-Ok-try_clone-clause-made : goal.returns-in-Ok-try_clone-clause-made
-returns-in-Ok-try_clone-clause-made g c =
-    let v = c.in-Replace.value in
-    as_asked c.args.doc.now c.replace.new.doc c.replace.result c.args.operation.now (Replace c.in-Replace.path v) c.in-Replace.is
-    (replaced_value c.args.doc.now c.replace.new.doc c.replace.result (tokens_of c.in-Replace.path) (plain v) (plain c.in-Ok-try_clone.value) c.in-Ok-try_clone.ensures.value c.replace.ensures.made)
+pub returns-in-Replace-clause-made : goal.returns-in-Replace-clause-made
+returns-in-Replace-clause-made g c = as_asked c.args.doc.now c.replace.new.doc c.replace.result c.args.operation.now (Replace c.in-Replace.path c.in-Replace.value) c.in-Replace.is c.replace.ensures.made
 
-pub returns-in-Ok-try_clone-clause-kept : goal.returns-in-Ok-try_clone-clause-kept
-returns-in-Ok-try_clone-clause-kept g c = kept_anyhow c.args.doc.now c.replace.new.doc c.replace.result c.args.operation.now c.replace.ensures.kept
+pub returns-in-Replace-clause-kept : goal.returns-in-Replace-clause-kept
+returns-in-Replace-clause-kept g c = kept_anyhow c.args.doc.now c.replace.new.doc c.replace.result c.args.operation.now c.replace.ensures.kept
 
-pub returns-in-Ok-try_clone-clause-fails : goal.returns-in-Ok-try_clone-clause-fails
-returns-in-Ok-try_clone-clause-fails g c =
-    let v = c.in-Replace.value in
-    fails_asked c.args.doc.now c.replace.new.doc c.replace.result c.args.operation.now (Replace c.in-Replace.path v) c.in-Replace.is
-    (fails_replaced c.args.doc.now c.replace.result (tokens_of c.in-Replace.path) (plain v) (plain c.in-Ok-try_clone.value) c.in-Ok-try_clone.ensures.value c.replace.ensures.fails)
-
-pub returns-in-Err-try_clone-clause-kept : goal.returns-in-Err-try_clone-clause-kept
-returns-in-Err-try_clone-clause-kept g c = λ one. kept_same c.args.doc.now
-
-pub returns-in-Err-try_clone-clause-fails : goal.returns-in-Err-try_clone-clause-fails
-returns-in-Err-try_clone-clause-fails g c = λ d shown. tt
+pub returns-in-Replace-clause-fails : goal.returns-in-Replace-clause-fails
+returns-in-Replace-clause-fails g c = fails_asked c.args.doc.now c.replace.new.doc c.replace.result c.args.operation.now (Replace c.in-Replace.path c.in-Replace.value) c.in-Replace.is c.replace.ensures.fails
 
 pub returns-in-Move-clause-made : goal.returns-in-Move-clause-made
 returns-in-Move-clause-made g c = as_asked c.args.doc.now c.move_value.new.doc c.move_value.result c.args.operation.now (Move c.in-Move.from c.in-Move.path) c.in-Move.is c.move_value.ensures.made

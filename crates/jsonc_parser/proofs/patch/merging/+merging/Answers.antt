@@ -34,7 +34,7 @@ merge_member-returns-clause-merged g t c =
     let old = tokens_of c.args.pointer.now in
     let below = c.in-Ok-push.ensures ∙ ap (λ (s : List ℕ). old ++ chars s ∷ []) c.in-Ok.ensures.cases in
     one_member doc c.merge_named.new.doc old name p
-    (subst (λ (l : List (List ℕ)). ReachesWhatShown doc (λ o. IsOfNumbers o p) (MergesNamed g.row.A.Denot l p) c.merge_named.new.doc) below c.in-Ok-merge_named.ensures.merged)
+    (subst (λ (l : List (List ℕ)). ReachesWhatShown doc (λ o. IsOfNumbers o p) (MergesNamed l p) c.merge_named.new.doc) below c.in-Ok-merge_named.ensures.merged)
 
 -- the value
 pub merge_value-returns-in-Object-clause-merged : goal.merge_value-returns-in-Object-clause-merged
@@ -89,7 +89,7 @@ merge_members-loop-member-preserved g t c = record {
   merged = merged_more c.args.doc.now (tokens_of c.args.pointer.now) c.args.members.now c.loop-member.member-index c.loop-member.doc c.loop-member.invariant.merged c.member-item.result c.loop-member-test.true c.member-item.is
       c.merge_member.new.doc
       (subst
-      (λ (l : List (List ℕ)). ReachesWhatShown c.loop-member.doc (λ o. IsOfNumbers o (plain c.member-item.result.1)) (MembersMergeIn g.row.A.Denot l (member (chars_of c.member-item.result.0) (plain c.member-item.result.1) no_members)) c.merge_member.new.doc)
+      (λ (l : List (List ℕ)). ReachesWhatShown c.loop-member.doc (λ o. IsOfNumbers o (plain c.member-item.result.1)) (MembersMergeIn l (member (chars_of c.member-item.result.0) (plain c.member-item.result.1) no_members)) c.merge_member.new.doc)
       c.loop-member.invariant.pointer c.in-Ok.ensures.merged);
   pointer = c.in-Ok.ensures.pointer ∙ c.loop-member.invariant.pointer;
 }

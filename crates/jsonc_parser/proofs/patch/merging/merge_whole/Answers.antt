@@ -13,7 +13,7 @@ returns-in-Ok-clause-merged g c =
     let doc = c.args.doc.now in
     let p = plain c.args.patch.now in
     let none = c.from_tokens-pointer.ensures ∙ ap names_of c.new.ensures.items in
-    merges_shown doc c.merge_value.new.doc p (subst (λ (l : List (List ℕ)). ReachesWhatShown doc (λ o. IsOfNumbers o p) (MergesIn g.row.A.Denot l p) c.merge_value.new.doc) none c.in-Ok.ensures.merged)
+    merges_shown doc c.merge_value.new.doc p (subst (λ (l : List (List ℕ)). ReachesWhatShown doc (λ o. IsOfNumbers o p) (MergesIn l p) c.merge_value.new.doc) none c.in-Ok.ensures.merged)
 
 pub returns-clause-stops : goal.returns-clause-stops
 returns-clause-stops g c =

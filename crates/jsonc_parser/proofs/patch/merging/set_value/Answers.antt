@@ -20,8 +20,8 @@ returns-in-Ok-add-clause-set g c =
     set_other doc c.add.new.doc tokens (plain c.args.patch.now) (plain c.in-Ok.new) c.in-Ok.ensures
     (not_there doc tokens (plain c.args.patch.now) (plain c.in-Ok.new) c.in-Ok.ensures _ c.in-Ok-false.ensures.decided c.in-Ok-false.field-0-test) c.in-Ok-add.ensures.made
 
-pub returns-in-Err-clause-fails : goal.returns-in-Err-clause-fails
-returns-in-Err-clause-fails g c = λ d shown place. c.in-Err.ensures.fails d shown
+pub returns-clause-fails : goal.returns-clause-fails
+returns-clause-fails g c = λ d shown place. c.in-Err.ensures.fails d shown
 
-pub returns-in-Err-add-clause-fails : goal.returns-in-Err-add-clause-fails
-returns-in-Err-add-clause-fails g c = added_not c.args.doc.now (tokens_of c.args.pointer.now) (plain c.in-Ok.new) c.in-Err-add.cause c.in-Err-add.ensures.fails
+pub returns-in-Ok-false-clause-fails : goal.returns-in-Ok-false-clause-fails
+returns-in-Ok-false-clause-fails g c = added_not c.args.doc.now (tokens_of c.args.pointer.now) (plain c.in-Ok.new) c.in-Err-add.cause c.in-Err-add.ensures.fails

@@ -25,8 +25,8 @@ returns-in-Ok-add-clause-made g c =
     moved_so c.args.doc.now c.add.new.doc from to c.in-Ok-whole_at.value c.in-Ok-whole_at.ensures.taken (leads_elsewhere from to (λ on. true≢false (sym (apart.1 on) ∙ c.if-leads_on.false)))
     (never_within c.args.doc.now from to c.in-Ok-None.field-0 c.in-Ok-None.field-0-is c.in-Ok-None.ensures.none) c.remove.new.doc c.in-Ok-remove.ensures.made c.in-Ok-add.ensures.made
 
-pub returns-in-Err-add-clause-fails : goal.returns-in-Err-add-clause-fails
-returns-in-Err-add-clause-fails g c =
+pub returns-clause-fails : goal.returns-clause-fails
+returns-clause-fails g c =
     moves_no_more c.args.doc.now c.remove.new.doc (tokens_of c.args.from.now) (tokens_of c.args.path.now) (plain c.in-Ok-whole_at.value) c.in-Err-add.cause c.in-Ok-remove.ensures.made c.in-Err-add.ensures.fails
 
 pub returns-in-Err-remove-clause-fails : goal.returns-in-Err-remove-clause-fails
