@@ -1,1 +1,2 @@
+pub mod Compacting
 pub mod Values

@@ -14,6 +14,7 @@ ghost use Rattle.jsonc_cst.specs.Values.{IsDocumentTaken};
 
 use super::{CstRootNode, EditError};
 use jsonc_input::parse_to_input;
+pub use jsonc_input::to_json;
 pub use jsonc_layout::input::CstInputValue;
 use jsonc_scan::is_number;
 use jsonc_text::errors::ParseError;

@@ -98,11 +98,42 @@ fn values_of_texts<A: Allocator + Copy>(alloc: A) -> Outcome {
     outcome
 }
 
+/// Texts, and the JSON text of their values, by RFC 8259.
+static COMPACT: [(&str, &str); 4] = [
+    (
+        "[ 1 , -2.5e3, true, /* x */ false, null, ]",
+        "[1,-2.5e3,true,false,null]",
+    ),
+    (
+        "{\n  // a\n  \"a\": {},\n  'b': [\"\\u0041\\n\", []]\n}",
+        r#"{"a":{},"b":["A\n",[]]}"#,
+    ),
+    (" \"\\/\" ", r#""/""#),
+    ("{\"a\": 1, \"b\": 2, \"a\": 3}", r#"{"a":3,"b":2}"#),
+];
+
+/// Writes the values of a few texts on one line each.
+fn lines_of_texts<A: Allocator + Copy>(alloc: A) -> Outcome {
+    let options = ParseOptions::default();
+    let mut outcome = Outcome::Answered;
+    for (text, written) in &COMPACT {
+        let next = match input::from_json(alloc, text, &options) {
+            Ok(Some(value)) => Outcome::of_text(input::to_json(alloc, &value), written),
+            Ok(None) => Outcome::Other,
+            Err(error) => Outcome::from(error),
+        };
+        outcome = outcome.then(next);
+    }
+    outcome
+}
+
 #[test]
 fn texts_are_checked(rt: HostRuntime) {
     let alloc = rt.alloc();
     assert!(rt; checked_numbers::<Global>(alloc) == Outcome::Answered);
     assert!(rt; values_of_texts::<Global>(alloc) == Outcome::Answered);
+    assert!(rt; lines_of_texts::<Global>(alloc) == Outcome::Answered);
     assert!(rt; is_refused_in_turn(alloc, |heap| checked_numbers(heap)));
+    assert!(rt; is_refused_in_turn(alloc, |heap| lines_of_texts(heap)));
     assert!(rt; answers_in_turn(alloc, |heap| values_of_texts(heap)));
 }
