@@ -2,6 +2,7 @@
 //! sets the font size in each file.
 #![tactic(auto)]
 
+mod edits;
 mod files;
 mod formats;
 mod mends;
@@ -147,6 +148,7 @@ fn main(rt: HostRuntime) -> anyhow::Result<ExitCode> {
     walk::walks(&rt)?;
     mends::mends(&rt)?;
     formats::formats(&rt)?;
+    edits::edits(&rt)?;
     patches::patches(&rt)?;
     Ok(ExitCode::SUCCESS)
 }

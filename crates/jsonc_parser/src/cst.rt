@@ -29,6 +29,7 @@ pub use jsonc_cst::sorting::{
     BlankLineHeaders, ElementSort, HeaderRule, HeadersBy, KeptHeaders, NoHeaders, PropertySort,
 };
 pub use jsonc_cst::typed::DocumentArg;
+pub use jsonc_ranges::LeafRanges;
 pub use jsonc_run::{Edit, Over, Place, Shape};
 pub use lists::{run, run_unsorted};
 pub use texts::{EditTextError, edit_text};

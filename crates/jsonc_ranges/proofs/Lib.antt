@@ -1,0 +1,3 @@
+mod Pieces
+mod Walk
+mod Noting
