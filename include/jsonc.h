@@ -3,10 +3,10 @@
  * include/README.md says how to link it, and what is trusted.
  *
  * - A text is a pointer and a length. The pointer is not null, also where the length is 0: write "" and 0.
- * - Start a jsonc_text_t with JSONC_NO_TEXT, a jsonc_mends_t with JSONC_NO_MENDS, and a
- *   jsonc_fault_t and a jsonc_style_t with {0}.
- * - What a call hands out is one block of malloc: free it with jsonc_free, and mends with jsonc_free_mends. On a status
- *   other than 0 there is none.
+ * - Start a jsonc_text_t with JSONC_NO_TEXT, a jsonc_path_t with JSONC_NO_PATH, a jsonc_mends_t with JSONC_NO_MENDS, and
+ *   a jsonc_fault_t and a jsonc_style_t with {0}.
+ * - What a call hands out is one block of malloc: free it with jsonc_free, a path with jsonc_free_path, and mends with
+ *   jsonc_free_mends. On a status other than 0 there is none.
  * - Each call answers a status. Texts, names, paths and JSON texts are UTF-8. A path is a JSON text, an array of names.
  * - Paths and JSON texts are read with all options on, the text with those that are given, and a patch with these too.
  * - Calls share nothing: any number of threads may make them at once.
@@ -17,6 +17,7 @@
 #include <stddef.h>
 #include <stdint.h>
 #include <stdlib.h>
+#include <string.h>
 
 #ifdef __cplusplus
 extern "C" {
@@ -41,6 +42,9 @@ JSONC_ASSERT(sizeof(jsonc_path_t) == 16);
 
 #define JSONC_NO_TEXT {(const uint8_t *)"", 0}
 
+/* (a pointer that is not null, to no steps: the path of the document's value) */
+#define JSONC_NO_PATH {(const size_t *)sizeof(size_t), 0}
+
 /* What calls answer. */
 enum jsonc_status {
   JSONC_OK = 0, /* It succeeded. */
@@ -62,7 +66,7 @@ enum jsonc_status {
   JSONC_NO_SUCH_EDIT = 16, /* No edit has this kind. */
   JSONC_NO_ROOM = 17, /* The caller's buffer is too small. How long the text is stands behind the pointer for its length. */
   JSONC_OTHER = 18, /* Anything else. No call answers it. */
-  JSONC_POINTER = 19, /* The pointer is none. The fault tells what is wrong with it. */
+  JSONC_POINTER = 19, /* The pointer is no JSON Pointer. The fault tells what is wrong with it. */
   JSONC_NO_SUCH_VALUE = 20, /* A pointer leads to nothing. */
   JSONC_REPEATED_NAME = 21, /* A name stands twice in an object where it is looked up, or in one of a merge patch. The fault's text has the name. */
   JSONC_NOT_PATCH = 22, /* The patch is no array, or an operation is none. The fault tells which, and what is wrong with it. */
@@ -72,6 +76,9 @@ enum jsonc_status {
   JSONC_LINE_CONTINUES = 26, /* A comment that ends with its line is to be inserted, and something follows there on the line. */
   JSONC_NOT_AN_ENTRY = 27, /* A comment is to be inserted at a node that is no entry. No call answers it of a text. */
   JSONC_NESTED_TOO_DEEP = 28, /* A value would be nested deeper in the document than texts are parsed. */
+  JSONC_NOT_STRING = 29, /* The value that the pointer refers to is no string. */
+  JSONC_NO_ROOT = 30, /* The text has no value. */
+  JSONC_NON_FINITE = 31, /* A number of the text is `Infinity` or `NaN`, which JSON does not have. The fault tells where. */
 };
 
 /* What a text may hold beyond JSON. */
@@ -386,6 +393,36 @@ uint32_t jsonc_merge_patch(const void *text, size_t text_len, const void *patch,
                            jsonc_text_t *out, jsonc_fault_t *fault);
 
 /*
+ * Hands out the path of the value that a JSON Pointer (RFC 6901) refers to, as an edit takes it.
+ *
+ * Each step is a place among elements or properties, from 0. The path of a member's value is that of the
+ * member. In a list of edits each path is one of the text after the edits before it.
+ *
+ * 0: it is done. 1, 3 and 4 as of `jsonc_check`. 2 and 19: the pointer is not UTF-8, or none. 20: it refers to
+ * nothing. 21: a name on its way stands twice in its object.
+ */
+uint32_t jsonc_path_of(const void *text, size_t text_len, const void *pointer, size_t pointer_len, uint32_t options,
+                       jsonc_path_t *out, jsonc_fault_t *fault);
+
+/*
+ * Hands out the string that a JSON Pointer (RFC 6901) refers to, its escapes decoded and without quotes.
+ *
+ * 29: the value that it refers to is no string. Else as `jsonc_find`.
+ */
+uint32_t jsonc_find_string(const void *text, size_t text_len, const void *pointer, size_t pointer_len,
+                           uint32_t options, jsonc_text_t *out, jsonc_fault_t *fault);
+
+/*
+ * Removes the element or property to which a JSON Pointer (RFC 6901) leads, with the comments that belong to
+ * it, and hands out the text after it. Of equal names the first leads on.
+ *
+ * 0: it is done. 1, 3 and 4 as of `jsonc_check`. 2 and 19: the pointer is not UTF-8, or none. 20: it leads to
+ * no element or property.
+ */
+uint32_t jsonc_remove_with_comments(const void *text, size_t text_len, const void *pointer, size_t pointer_len,
+                                    uint32_t options, jsonc_text_t *out, jsonc_fault_t *fault);
+
+/*
  * Tells every fault of a text with a change for it, and hands out the text with all changes made, which is a
  * document.
  *
@@ -405,6 +442,14 @@ uint32_t jsonc_mend(const void *text, size_t text_len, uint32_t options, jsonc_t
  */
 uint32_t jsonc_format(const void *text, size_t text_len, uint32_t options, const jsonc_style_t *style,
                       jsonc_text_t *out, jsonc_fault_t *fault);
+
+/*
+ * Hands out the text as JSON (RFC 8259), with the same value, without comments and trailing commas.
+ *
+ * 0: it is done. 1, 3 and 4 as of `jsonc_check`. 30: the text has no value. 31: a number of it is `Infinity` or
+ * `NaN`, perhaps with a sign, and the fault tells its place, line and column.
+ */
+uint32_t jsonc_to_json(const void *text, size_t text_len, uint32_t options, jsonc_text_t *out, jsonc_fault_t *fault);
 
 /*
  * Writes the text that the document prints into a buffer, as `jsonc_print` hands it out.
@@ -513,9 +558,200 @@ uint32_t jsonc_merge_patch_into(const void *text, size_t text_len, const void *p
 uint32_t jsonc_format_into(const void *text, size_t text_len, uint32_t options, const jsonc_style_t *style,
                            void *room, size_t room_len, size_t *len, jsonc_fault_t *fault);
 
+/* The bytes of a C string, as a text of edits. They are not copied. */
+static inline jsonc_text_t jsonc_text_of(const char *text) {
+  jsonc_text_t made = {(const uint8_t *)text, strlen(text)};
+  return made;
+}
+
+/* What a status says, as `The text is no document`. */
+static inline const char *jsonc_status_text(uint32_t status) {
+  switch (status) {
+  case JSONC_OK: return "It succeeded";
+  case JSONC_OUT_OF_MEMORY: return "An allocation failed";
+  case JSONC_WORD_NOT_UTF8: return "A name, comment, path, pointer or JSON text is not UTF-8";
+  case JSONC_NOT_UTF8: return "The text is not UTF-8";
+  case JSONC_TEXT: return "The text is no document";
+  case JSONC_PATH: return "The path is no document";
+  case JSONC_NOT_NAMES: return "The path is no array of strings";
+  case JSONC_JSON: return "The JSON text of a value or patch is no document";
+  case JSONC_NO_VALUE: return "The JSON text has no value";
+  case JSONC_NOT_OBJECT: return "The document's value is no object";
+  case JSONC_NOT_ARRAY: return "The document's value is no array";
+  case JSONC_NO_SETTING: return "Nothing stands at the path";
+  case JSONC_ON_THE_WAY: return "A value of another kind than an object stands on the path";
+  case JSONC_NO_SUCH_PLACE: return "The path of an edit leads to nothing that it needs, or no comment has its number";
+  case JSONC_MISSING_BRACKETS: return "An array or object lacks a bracket";
+  case JSONC_MISSING_NAME: return "A property lacks its name or colon";
+  case JSONC_NO_SUCH_EDIT: return "No edit has this kind";
+  case JSONC_NO_ROOM: return "The caller's buffer is too small";
+  case JSONC_OTHER: return "Anything else";
+  case JSONC_POINTER: return "The pointer is no JSON Pointer";
+  case JSONC_NO_SUCH_VALUE: return "A pointer leads to nothing";
+  case JSONC_REPEATED_NAME: return "A name stands twice in an object where it is looked up, or in one of a merge patch";
+  case JSONC_NOT_PATCH: return "The patch is no array, or an operation is none";
+  case JSONC_INTO_ITSELF: return "A value was to be moved into itself";
+  case JSONC_NOT_EQUAL: return "A value is not equal to the one that it was tested against";
+  case JSONC_INVALID_COMMENT: return "The text of a comment that is to be inserted is not one comment and nothing else";
+  case JSONC_LINE_CONTINUES: return "A comment that ends with its line is to be inserted, and something follows there on the line";
+  case JSONC_NOT_AN_ENTRY: return "A comment is to be inserted at a node that is no entry";
+  case JSONC_NESTED_TOO_DEEP: return "A value would be nested deeper in the document than texts are parsed";
+  case JSONC_NOT_STRING: return "The value that the pointer refers to is no string";
+  case JSONC_NO_ROOT: return "The text has no value";
+  case JSONC_NON_FINITE: return "A number of the text is `Infinity` or `NaN`, which JSON does not have";
+  default: return "No call answers this status";
+  }
+}
+
+/* Replaces the value at the path. */
+static inline jsonc_edit_t jsonc_edit_replace(jsonc_path_t path, jsonc_text_t json) {
+  jsonc_text_t none = JSONC_NO_TEXT;
+  jsonc_edit_t edit = {JSONC_EDIT_REPLACE, path, none, json, 0, false, false};
+  return edit;
+}
+
+/* Removes the element or property at the path, or the document's value. */
+static inline jsonc_edit_t jsonc_edit_remove(jsonc_path_t path) {
+  jsonc_text_t none = JSONC_NO_TEXT;
+  jsonc_edit_t edit = {JSONC_EDIT_REMOVE, path, none, none, 0, false, false};
+  return edit;
+}
+
+/* Removes the comment of the number in `index`. */
+static inline jsonc_edit_t jsonc_edit_remove_comment(size_t index) {
+  jsonc_path_t whole = JSONC_NO_PATH;
+  jsonc_text_t none = JSONC_NO_TEXT;
+  jsonc_edit_t edit = {JSONC_EDIT_REMOVE_COMMENT, whole, none, none, index, false, false};
+  return edit;
+}
+
+/* Sets the document's value. */
+static inline jsonc_edit_t jsonc_edit_set_root(jsonc_text_t json) {
+  jsonc_path_t whole = JSONC_NO_PATH;
+  jsonc_text_t none = JSONC_NO_TEXT;
+  jsonc_edit_t edit = {JSONC_EDIT_SET_ROOT, whole, none, json, 0, false, false};
+  return edit;
+}
+
+/* Removes all that the document has. */
+static inline jsonc_edit_t jsonc_edit_clear_root(void) {
+  jsonc_path_t whole = JSONC_NO_PATH;
+  jsonc_text_t none = JSONC_NO_TEXT;
+  jsonc_edit_t edit = {JSONC_EDIT_CLEAR_ROOT, whole, none, none, 0, false, false};
+  return edit;
+}
+
+/* Replaces the property at the path by one of a name and value. */
+static inline jsonc_edit_t jsonc_edit_replace_property(jsonc_path_t path, jsonc_text_t name, jsonc_text_t json) {
+  jsonc_edit_t edit = {JSONC_EDIT_REPLACE_PROPERTY, path, name, json, 0, false, false};
+  return edit;
+}
+
+/* Sees that the document has an object, or an array if `is_array`. */
+static inline jsonc_edit_t jsonc_edit_ensure_root(bool is_array, bool replaces) {
+  jsonc_path_t whole = JSONC_NO_PATH;
+  jsonc_text_t none = JSONC_NO_TEXT;
+  jsonc_edit_t edit = {JSONC_EDIT_ENSURE_ROOT, whole, none, none, 0, is_array, replaces};
+  return edit;
+}
+
+/* Sets the value of the property at the path. */
+static inline jsonc_edit_t jsonc_edit_set_value(jsonc_path_t path, jsonc_text_t json) {
+  jsonc_text_t none = JSONC_NO_TEXT;
+  jsonc_edit_t edit = {JSONC_EDIT_SET_VALUE, path, none, json, 0, false, false};
+  return edit;
+}
+
+/* Sees that the property at the path has an object, or an array if `is_array`. */
+static inline jsonc_edit_t jsonc_edit_ensure_value(jsonc_path_t path, bool is_array) {
+  jsonc_text_t none = JSONC_NO_TEXT;
+  jsonc_edit_t edit = {JSONC_EDIT_ENSURE_VALUE, path, none, none, 0, is_array, false};
+  return edit;
+}
+
+/* Sets the truth value at the path to `value`. */
+static inline jsonc_edit_t jsonc_edit_set_boolean(jsonc_path_t path, bool value) {
+  jsonc_text_t none = JSONC_NO_TEXT;
+  jsonc_edit_t edit = {JSONC_EDIT_SET_BOOLEAN, path, none, none, 0, value, false};
+  return edit;
+}
+
+/* Puts the array or object at the path on several lines. */
+static inline jsonc_edit_t jsonc_edit_ensure_multiline(jsonc_path_t path) {
+  jsonc_text_t none = JSONC_NO_TEXT;
+  jsonc_edit_t edit = {JSONC_EDIT_ENSURE_MULTILINE, path, none, none, 0, false, false};
+  return edit;
+}
+
+/* Inserts a value into the array at the path, at `index`. */
+static inline jsonc_edit_t jsonc_edit_insert_element(jsonc_path_t path, size_t index, jsonc_text_t json) {
+  jsonc_text_t none = JSONC_NO_TEXT;
+  jsonc_edit_t edit = {JSONC_EDIT_INSERT_ELEMENT, path, none, json, index, false, false};
+  return edit;
+}
+
+/* Appends a value to the array at the path. */
+static inline jsonc_edit_t jsonc_edit_append_element(jsonc_path_t path, jsonc_text_t json) {
+  jsonc_text_t none = JSONC_NO_TEXT;
+  jsonc_edit_t edit = {JSONC_EDIT_APPEND_ELEMENT, path, none, json, 0, false, false};
+  return edit;
+}
+
+/* Inserts a property into the object at the path, at `index`. */
+static inline jsonc_edit_t jsonc_edit_insert_property(jsonc_path_t path, size_t index, jsonc_text_t name, jsonc_text_t json) {
+  jsonc_edit_t edit = {JSONC_EDIT_INSERT_PROPERTY, path, name, json, index, false, false};
+  return edit;
+}
+
+/* Appends a property to the object at the path. */
+static inline jsonc_edit_t jsonc_edit_append_property(jsonc_path_t path, jsonc_text_t name, jsonc_text_t json) {
+  jsonc_edit_t edit = {JSONC_EDIT_APPEND_PROPERTY, path, name, json, 0, false, false};
+  return edit;
+}
+
+/* Sees that the object at the path has an object at the name, or an array if `is_array`. */
+static inline jsonc_edit_t jsonc_edit_ensure_property(jsonc_path_t path, jsonc_text_t name, bool is_array, bool replaces) {
+  jsonc_text_t none = JSONC_NO_TEXT;
+  jsonc_edit_t edit = {JSONC_EDIT_ENSURE_PROPERTY, path, name, none, 0, is_array, replaces};
+  return edit;
+}
+
+/* Sets trailing commas from the path down, or removes them if `never`. */
+static inline jsonc_edit_t jsonc_edit_set_trailing_commas(jsonc_path_t path, bool never) {
+  jsonc_text_t none = JSONC_NO_TEXT;
+  jsonc_edit_t edit = {JSONC_EDIT_SET_TRAILING_COMMAS, path, none, none, 0, never, false};
+  return edit;
+}
+
+/* Sorts the array or object at the path. */
+static inline jsonc_edit_t jsonc_edit_sort(jsonc_path_t path, bool pins, bool by_groups) {
+  jsonc_text_t none = JSONC_NO_TEXT;
+  jsonc_edit_t edit = {JSONC_EDIT_SORT, path, none, none, 0, pins, by_groups};
+  return edit;
+}
+
+/* Gives the property at the path another name. */
+static inline jsonc_edit_t jsonc_edit_rename_property(jsonc_path_t path, jsonc_text_t name) {
+  jsonc_text_t none = JSONC_NO_TEXT;
+  jsonc_edit_t edit = {JSONC_EDIT_RENAME_PROPERTY, path, name, none, 0, false, false};
+  return edit;
+}
+
+/* Inserts the comment in `comment` above the element or property at the path, or after it if `is_after`. */
+static inline jsonc_edit_t jsonc_edit_insert_comment(jsonc_path_t path, bool is_after, jsonc_text_t comment) {
+  jsonc_text_t none = JSONC_NO_TEXT;
+  jsonc_edit_t edit = {JSONC_EDIT_INSERT_COMMENT, path, comment, none, 0, is_after, false};
+  return edit;
+}
+
 /* Frees a text that was handed out. */
 static inline void jsonc_free(jsonc_text_t text) {
   if (text.len) free((void *)text.at);
+}
+
+/* Frees a path that was handed out. */
+static inline void jsonc_free_path(jsonc_path_t path) {
+  if (path.len) free((void *)path.at);
 }
 
 /* Frees mends that were handed out. */

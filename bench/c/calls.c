@@ -122,6 +122,42 @@ static void texts(void) {
   is(made(s, out, "{\"a\":\"c\"} // c"), "a merge patch (RFC 7396, A)");
 }
 
+/* What a pointer leads to (RFC 6901, 4; RFC 8259, 7), and texts as JSON. What is removed by hand, from docs/EDITS.md. */
+static void pointers(void) {
+  const char *twice = "{\"a\": 1, \"a\": 2}";
+  jsonc_fault_t fault = {0};
+  jsonc_text_t out = JSONC_NO_TEXT;
+  jsonc_path_t path = JSONC_NO_PATH;
+  uint32_t s = jsonc_path_of(B(text), B("/a/c/1"), JSONC_ALL, &path, &fault);
+  is(s == JSONC_OK && path.len == 3 && path.at[0] == 1 && path.at[1] == 0 && path.at[2] == 1, "the path of a pointer");
+  jsonc_edit_t edit = jsonc_edit_replace(path, jsonc_text_of("9"));
+  s = jsonc_edit(B(text), &edit, 1, JSONC_ALL, &out, &fault);
+  is(made(s, out, "{\n  // one\n  \"b\": 1, // first\n  \"a\": {\"c\": [1, 9]}\n}\n"), "an edit takes it");
+  jsonc_free_path(path);
+  s = jsonc_path_of(B("[1]"), B(""), JSONC_ALL, &path, &fault);
+  is(s == JSONC_OK && path.len == 0 && path.at, "the path of the whole");
+  s = jsonc_path_of(B("[1]"), B("/1"), JSONC_ALL, &path, &fault);
+  is(s == JSONC_NO_SUCH_VALUE && path.len == 0, "a pointer to nothing has no path");
+  is(jsonc_path_of(B(twice), B("/a"), JSONC_ALL, &path, &fault) == JSONC_REPEATED_NAME && fault.text_len, "a name that stands twice");
+  s = jsonc_find_string(B("{\"a\": \"x\\n\\u00e9\"}"), B("/a"), JSONC_ALL, &out, &fault);
+  is(made(s, out, "x\n\xc3\xa9"), "a string, its escapes decoded");
+  is(jsonc_find_string(B(text), B("/b"), JSONC_ALL, &out, &fault) == JSONC_NOT_STRING && out.len == 0, "a value that is no string");
+  is(jsonc_find_string(B(text), B("/z"), JSONC_ALL, &out, &fault) == JSONC_NO_SUCH_VALUE, "no value");
+  is(jsonc_find_string(B(text), B("z"), JSONC_ALL, &out, &fault) == JSONC_POINTER && fault.kind, "no pointer");
+  s = jsonc_remove_with_comments(B(text), B("/b"), JSONC_ALL, &out, &fault);
+  is(made(s, out, "{\n  \"a\": {\"c\": [1, 2]}\n}\n"), "remove with comments");
+  is(jsonc_remove_with_comments(B(text), B("/z"), JSONC_ALL, &out, &fault) == JSONC_NO_SUCH_VALUE && out.len == 0, "nothing to be removed");
+  is(jsonc_remove_with_comments(B("[1,"), B("/0"), JSONC_ALL, &out, &fault) == JSONC_TEXT && fault.kind, "from no document");
+  s = jsonc_to_json(B(text), JSONC_ALL, &out, &fault);
+  is(made(s, out, "{\n  \n  \"b\": 1, \n  \"a\": {\"c\": [1, 2]}\n}\n"), "a text as JSON");
+  s = jsonc_to_json(B("[0x1F, 'a',]"), JSONC_ALL, &out, &fault);
+  is(made(s, out, "[31, \"a\"]"), "numbers and strings as JSON has them");
+  s = jsonc_to_json(B("[1,\n -Infinity]"), JSONC_ALL, &out, &fault);
+  is(s == JSONC_NON_FINITE && out.len == 0 && fault.start == 5 && fault.line == 2 && fault.column == 2, "a number that JSON does not have");
+  is(jsonc_to_json(B(" // c"), JSONC_ALL, &out, &fault) == JSONC_NO_ROOT && fault.line == 0, "a text without a value");
+  is(jsonc_to_json(B("[1,]"), JSONC_JSON_ALONE, &out, &fault) == JSONC_TEXT && fault.kind, "a text of other options");
+}
+
 /* Rows of docs/FAULTS.md. */
 static void mends(void) {
   const char *broken = "{\n  \"a\": 1 \"b\": [1, 2\n}";
@@ -178,6 +214,15 @@ static uint32_t mended(jsonc_text_t *out) {
   return s;
 }
 
+/* Whether a pointer has a path, which is freed. */
+static uint32_t pathed(jsonc_fault_t *fault) {
+  jsonc_path_t path = JSONC_NO_PATH;
+  uint32_t s = jsonc_path_of(B(text), B("/a/c/1"), JSONC_ALL, &path, fault);
+  is((s == JSONC_OK) == (path.len == 3), "a path is handed out with success alone");
+  jsonc_free_path(path);
+  return s;
+}
+
 static void lists(void) {
   static const size_t nowhere[1], first[1] = {0};
   jsonc_edit_t edits[] = {
@@ -199,6 +244,45 @@ static void lists(void) {
   fault.made = 3;
   s = jsonc_edit(B("\xff"), edits, 3, JSONC_ALL, &out, &fault);
   is(s == JSONC_NOT_UTF8 && fault.made == 0 && out.len == 0, "edits of bytes that are no UTF-8");
+}
+
+/* Whether an edit has these fields, of its path the length, and of its texts what they are. */
+static int has(jsonc_edit_t edit, uint32_t kind, size_t steps, const char *name, const char *json, size_t index, bool first, bool second) {
+  return edit.kind == kind && edit.path.len == steps && edit.path.at && edit.name.len == strlen(name) && edit.name.at &&
+         !memcmp(edit.name.at, name, edit.name.len) && edit.json.len == strlen(json) && edit.json.at && !memcmp(edit.json.at, json, edit.json.len) &&
+         edit.index == index && edit.first == first && edit.second == second;
+}
+
+/* Each edit as it is made, by the fields that docs/EDITS.md and the header have for its kind. */
+static void makers(void) {
+  static const size_t steps[2] = {1, 0};
+  const jsonc_path_t at = {steps, 2};
+  const jsonc_text_t n = jsonc_text_of("n"), v = jsonc_text_of("[1]"), c = jsonc_text_of("// c");
+  is(has(jsonc_edit_replace(at, v), JSONC_EDIT_REPLACE, 2, "", "[1]", 0, false, false), "replace");
+  is(has(jsonc_edit_remove(at), JSONC_EDIT_REMOVE, 2, "", "", 0, false, false), "remove");
+  is(has(jsonc_edit_remove_comment(3), JSONC_EDIT_REMOVE_COMMENT, 0, "", "", 3, false, false), "remove a comment");
+  is(has(jsonc_edit_set_root(v), JSONC_EDIT_SET_ROOT, 0, "", "[1]", 0, false, false), "set the root");
+  is(has(jsonc_edit_clear_root(), JSONC_EDIT_CLEAR_ROOT, 0, "", "", 0, false, false), "clear the root");
+  is(has(jsonc_edit_replace_property(at, n, v), JSONC_EDIT_REPLACE_PROPERTY, 2, "n", "[1]", 0, false, false), "replace a property");
+  is(has(jsonc_edit_ensure_root(true, false), JSONC_EDIT_ENSURE_ROOT, 0, "", "", 0, true, false), "ensure an array");
+  is(has(jsonc_edit_ensure_root(false, true), JSONC_EDIT_ENSURE_ROOT, 0, "", "", 0, false, true), "ensure an object, whatever is there");
+  is(has(jsonc_edit_set_value(at, v), JSONC_EDIT_SET_VALUE, 2, "", "[1]", 0, false, false), "set a value");
+  is(has(jsonc_edit_ensure_value(at, true), JSONC_EDIT_ENSURE_VALUE, 2, "", "", 0, true, false), "ensure a value");
+  is(has(jsonc_edit_set_boolean(at, true), JSONC_EDIT_SET_BOOLEAN, 2, "", "", 0, true, false), "set a truth value");
+  is(has(jsonc_edit_ensure_multiline(at), JSONC_EDIT_ENSURE_MULTILINE, 2, "", "", 0, false, false), "ensure several lines");
+  is(has(jsonc_edit_insert_element(at, 4, v), JSONC_EDIT_INSERT_ELEMENT, 2, "", "[1]", 4, false, false), "insert an element");
+  is(has(jsonc_edit_append_element(at, v), JSONC_EDIT_APPEND_ELEMENT, 2, "", "[1]", 0, false, false), "append an element");
+  is(has(jsonc_edit_insert_property(at, 4, n, v), JSONC_EDIT_INSERT_PROPERTY, 2, "n", "[1]", 4, false, false), "insert a property");
+  is(has(jsonc_edit_append_property(at, n, v), JSONC_EDIT_APPEND_PROPERTY, 2, "n", "[1]", 0, false, false), "append a property");
+  is(has(jsonc_edit_ensure_property(at, n, true, false), JSONC_EDIT_ENSURE_PROPERTY, 2, "n", "", 0, true, false), "ensure a property");
+  is(has(jsonc_edit_ensure_property(at, n, false, true), JSONC_EDIT_ENSURE_PROPERTY, 2, "n", "", 0, false, true), "ensure one, whatever is there");
+  is(has(jsonc_edit_set_trailing_commas(at, true), JSONC_EDIT_SET_TRAILING_COMMAS, 2, "", "", 0, true, false), "no trailing commas");
+  is(has(jsonc_edit_sort(at, true, false), JSONC_EDIT_SORT, 2, "", "", 0, true, false), "sort, and pin comments");
+  is(has(jsonc_edit_sort(at, false, true), JSONC_EDIT_SORT, 2, "", "", 0, false, true), "sort within groups");
+  is(has(jsonc_edit_rename_property(at, n), JSONC_EDIT_RENAME_PROPERTY, 2, "n", "", 0, false, false), "rename a property");
+  is(has(jsonc_edit_insert_comment(at, true, c), JSONC_EDIT_INSERT_COMMENT, 2, "// c", "", 0, true, false), "insert a comment");
+  is(!strcmp(jsonc_status_text(JSONC_TEXT), "The text is no document"), "the text of a status");
+  is(!strcmp(jsonc_status_text(99), "No call answers this status"), "the text of another number");
 }
 
 /* By hand: above on a line of its own with the entry's indent, after it one space behind its comma. */
@@ -244,7 +328,7 @@ static const jsonc_edit_t edits_refused[] = {
 #define MERGE "{\"b\": null, \"a\": {\"c\": {\"x\": null, \"y\": [1]}}, \"z\": 1}"
 
 /* The greatest number of a call, and of one into a buffer. */
-enum { LAST_CALL = 21, LAST_INTO = 13 };
+enum { LAST_CALL = 27, LAST_INTO = 13 };
 
 /* Each array and object on several lines, with tabs. */
 static const jsonc_style_t expanded = {JSONC_LINE_END_LF, JSONC_LEVEL_TAB, 0, true};
@@ -273,6 +357,12 @@ static uint32_t call(int which, jsonc_text_t *out, jsonc_fault_t *fault) {
   case 18: return jsonc_edit(B(text), edits_refused, 1, JSONC_ALL, out, fault);
   case 19: return jsonc_edit(B(text), edits_refused + 1, 1, JSONC_ALL, out, fault);
   case 20: return mended(out);
+  case 21: return jsonc_find_string(B("{\"\\u0061\": \"\\n\"}"), B("/a"), JSONC_ALL, out, fault);
+  case 22: return jsonc_find_string(B(text), B("/a"), JSONC_ALL, out, fault);
+  case 23: return jsonc_remove_with_comments(B(text), B("/b"), JSONC_ALL, out, fault);
+  case 24: return jsonc_to_json(B("{a: '\\x41', /* c */ b: 0x1F,}"), JSONC_ALL, out, fault);
+  case 25: return jsonc_to_json(B("[NaN]"), JSONC_ALL, out, fault);
+  case 26: return pathed(fault);
   default: return jsonc_check(B("[1,"), JSONC_ALL, fault);
   }
 }
@@ -395,9 +485,11 @@ int main(void) {
   faults();
   patch_faults();
   texts();
+  pointers();
   mends();
   formats();
   lists();
+  makers();
   comments();
   buffers();
   threads();

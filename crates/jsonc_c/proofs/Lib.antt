@@ -2,6 +2,7 @@ mod Formatting
 mod Fronts
 mod Inputs
 mod Patching
+mod Pointing
 mod Reading
 mod Refused
 pub mod Telling

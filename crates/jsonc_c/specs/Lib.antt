@@ -2,8 +2,10 @@ pub mod Commands
 pub mod Compared
 pub mod Edits
 pub mod Formats
+pub mod Json
 pub mod Mends
 pub mod Options
 pub mod PatchTold
 pub mod Patches
+pub mod Pointed
 pub mod Told

@@ -106,7 +106,7 @@ pub(crate) const NO_ROOM: u32 = 17;
 /// Anything else. No call answers it.
 pub(crate) const OTHER: u32 = 18;
 
-/// The pointer is none. The fault tells what is wrong with it.
+/// The pointer is no JSON Pointer. The fault tells what is wrong with it.
 pub(crate) const POINTER: u32 = 19;
 
 /// A pointer leads to nothing.
@@ -135,6 +135,15 @@ pub(crate) const NOT_AN_ENTRY: u32 = 27;
 
 /// A value would be nested deeper in the document than texts are parsed.
 pub(crate) const NESTED_TOO_DEEP: u32 = 28;
+
+/// The value that the pointer refers to is no string.
+pub(crate) const NOT_STRING: u32 = 29;
+
+/// The text has no value.
+pub(crate) const NO_ROOT: u32 = 30;
+
+/// A number of the text is `Infinity` or `NaN`, which JSON does not have. The fault tells where.
+pub(crate) const NON_FINITE: u32 = 31;
 
 fn string_kind_number(kind: &ParseStringErrorKind) -> u32
     ensures { result ≡ string_kind_number kind.now }

@@ -1,4 +1,4 @@
-//! Texts that are handed out.
+//! Texts and paths that are handed out.
 ghost use Rattle.std.specs.Prelude.{◌≡◌, ◌++◌, ◌∷◌, [], List, string_bytes, ℕ};
 
 /// Hands out bytes as a block of their own, which stays until the caller frees it, or none for no bytes.
@@ -17,6 +17,17 @@ pub(crate) fn hand_out(text: String, out: &mut &'static [u8])
     ensures { out.new.now ≡ string_bytes text }
 {
     hand_out_bytes(text.into_bytes(), out);
+}
+
+/// Hands out a path as a block of its own, which stays until the caller frees it, or none for no steps.
+pub(crate) fn hand_out_path(path: Vec<usize>, out: &mut &'static [usize])
+    ensures { out.new.now ≡ path.items }
+{
+    if path.is_empty() {
+        *out = &[];
+        return;
+    }
+    *out = path.leak();
 }
 
 /// A line's text without its line feed.

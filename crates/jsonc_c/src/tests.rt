@@ -18,6 +18,7 @@ use std::test::Fail;
 mod formats;
 mod mends;
 mod patches;
+mod pointed;
 
 const ALL: u32 = 1023;
 

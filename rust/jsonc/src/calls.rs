@@ -3,7 +3,7 @@ use crate::edit::Edit;
 use crate::error::{Error, kind_of};
 use crate::format::Style;
 use crate::mends::{Mend, Mends};
-use crate::text::{NO_MENDS, Text, mends_of};
+use crate::text::{Text, list_of, nothing};
 use crate::{Options, ffi};
 
 /// A fault with all of it 0.
@@ -127,27 +127,60 @@ pub fn find(text: &str, options: Options, pointer: &str) -> Result<Option<Text>,
     }
 }
 
+/// The path of the value that a JSON Pointer refers to, as an [`Edit`] takes it, if there is one.
+///
+/// In a list of edits each path is one of the text after the edits before it.
+pub fn path_of(text: &str, options: Options, pointer: &str) -> Result<Option<Vec<usize>>, Error> {
+    let (mut out, mut fault) = (nothing(), no_fault());
+    // SAFETY: as in `handed`.
+    let status = unsafe { ffi::jsonc_path_of(text.as_ptr(), text.len(), pointer.as_ptr(), pointer.len(), options.bits(), &mut out, &mut fault) };
+    match status {
+        ffi::OK => Ok(Some(list_of(out))),
+        ffi::NO_SUCH_VALUE => Ok(None),
+        status => Err(Error::of(status, &fault, 0)),
+    }
+}
+
+/// The string that a JSON Pointer refers to, its escapes decoded, if there is a value.
+pub fn find_string(text: &str, options: Options, pointer: &str) -> Result<Option<Text>, Error> {
+    match handed!(jsonc_find_string, options, text, pointer) {
+        Ok(value) => Ok(Some(value)),
+        Err(Error::NoSuchValue(_)) => Ok(None),
+        Err(error) => Err(error),
+    }
+}
+
+/// Removes the element or property to which a JSON Pointer leads, with the comments that belong to it.
+pub fn remove_with_comments(text: &str, options: Options, pointer: &str) -> Result<Text, Error> {
+    handed!(jsonc_remove_with_comments, options, text, pointer)
+}
+
+/// The text as JSON (RFC 8259), with the same value, without comments and trailing commas.
+pub fn to_json(text: &str, options: Options) -> Result<Text, Error> {
+    handed!(jsonc_to_json, options, text)
+}
+
 /// Makes the operations of a JSON Patch (RFC 6902), a JSON text of the options. Where one is not made, none is.
 pub fn apply_patch(text: &str, options: Options, patch: &str) -> Result<Text, Error> {
-    handed!(jsonc_apply_patch, options, text, patch)
+    handed!(jsonc_apply_patch, options, text, patch).map_err(Error::of_patch)
 }
 
 /// Merges a JSON Merge Patch (RFC 7396), a JSON text of the options.
 pub fn merge_patch(text: &str, options: Options, patch: &str) -> Result<Text, Error> {
-    handed!(jsonc_merge_patch, options, text, patch)
+    handed!(jsonc_merge_patch, options, text, patch).map_err(Error::of_patch)
 }
 
 /// Every fault of a text with a change for it, and the text with all changes made, which is a document of the options.
 ///
 /// There are no mends where the text is a document. The first fault is the one that [`check`] tells.
 pub fn mend(text: &str, options: Options) -> Result<Mends, Error> {
-    let (mut out, mut list) = (Text::NONE, NO_MENDS);
+    let (mut out, mut list) = (Text::NONE, nothing());
     // SAFETY: as in `handed`; `list` too is this function's own.
     let status = unsafe { ffi::jsonc_mend(text.as_ptr(), text.len(), options.bits(), &mut out, &mut list) };
     if status != ffi::OK {
         return Err(Error::of(status, &no_fault(), 0));
     }
-    let (text, list) = (Text::of(out), mends_of(list));
+    let (text, list) = (Text::of(out), list_of(list));
     let mend = |it: &ffi::Mend| Mend {
         kind: kind_of(it.kind),
         fault: it.fault_start..it.fault_end,
@@ -236,12 +269,12 @@ pub fn find_into(text: &str, options: Options, pointer: &str, room: &mut [u8]) -
 
 /// As [`apply_patch`].
 pub fn apply_patch_into(text: &str, options: Options, patch: &str, room: &mut [u8]) -> Result<usize, Error> {
-    filled!(jsonc_apply_patch_into, room, options, text, patch)
+    filled!(jsonc_apply_patch_into, room, options, text, patch).map_err(Error::of_patch)
 }
 
 /// As [`merge_patch`].
 pub fn merge_patch_into(text: &str, options: Options, patch: &str, room: &mut [u8]) -> Result<usize, Error> {
-    filled!(jsonc_merge_patch_into, room, options, text, patch)
+    filled!(jsonc_merge_patch_into, room, options, text, patch).map_err(Error::of_patch)
 }
 
 /// As [`format`].

@@ -41,6 +41,11 @@ impl fmt::Display for Fault {
     }
 }
 
+/// What a status says.
+fn said(status: u32) -> &'static str {
+    ffi::STATUSES.iter().find(|(it, _)| *it == status).map_or("No call answers this status", |(_, text)| text)
+}
+
 /// Why a call did not do what was asked.
 #[derive(Clone, Debug, PartialEq, Eq)]
 pub enum Error {
@@ -65,9 +70,18 @@ pub enum Error {
     LineContinues(usize),
     /// The pointer is none.
     Pointer(Fault),
-    /// The patch is no array, or an operation is none; so many stand before it.
+    /// The patch is no document or no array, or an operation is none; so many stand before it. Of a merge patch: it is no
+    /// document.
     NotPatch(usize, Fault),
-    /// A pointer of a patch leads to nothing; so many operations stand before the one that has it.
+    /// The merge patch has no value.
+    EmptyPatch,
+    /// The value that a pointer refers to is no string.
+    NotString,
+    /// A text that is to be written as JSON has no value.
+    NoRoot,
+    /// A number of a text that is to be written as JSON is `Infinity` or `NaN`. The fault has its place, and no kind.
+    NonFinite(Fault),
+    /// A pointer leads to nothing; so many operations of a patch stand before the one that has it.
     NoSuchValue(usize),
     /// A name stands twice in an object where it is looked up, or in one of a merge patch; so many operations of a patch
     /// stand before.
@@ -98,12 +112,26 @@ impl Error {
             ffi::LINE_CONTINUES => Error::LineContinues(fault.made),
             ffi::POINTER => Error::Pointer(Fault::of(fault)),
             ffi::NOT_PATCH => Error::NotPatch(fault.made, Fault::of(fault)),
+            ffi::NOT_STRING => Error::NotString,
+            ffi::NO_ROOT => Error::NoRoot,
+            ffi::NON_FINITE => Error::NonFinite(Fault::of(fault)),
             ffi::NO_SUCH_VALUE => Error::NoSuchValue(fault.made),
             ffi::REPEATED_NAME => Error::RepeatedName(fault.made, Fault::of(fault)),
             ffi::INTO_ITSELF => Error::IntoItself(fault.made),
             ffi::NOT_EQUAL => Error::NotEqual(fault.made),
             ffi::NO_ROOM => Error::NoRoom(len),
             other => Error::Other(other),
+        }
+    }
+}
+
+impl Error {
+    /// The same of a call that reads a patch: what is told of a JSON text is told of the patch.
+    pub(crate) fn of_patch(self) -> Error {
+        match self {
+            Error::Json(fault) => Error::NotPatch(0, fault),
+            Error::NoValue => Error::EmptyPatch,
+            other => other,
         }
     }
 }
@@ -122,13 +150,17 @@ impl fmt::Display for Error {
             Error::LineContinues(made) => write!(f, "Line continues after the comment, edits made before: {made}"),
             Error::Pointer(fault) => write!(f, "pointer: {fault}"),
             Error::NotPatch(_, fault) => write!(f, "patch: {fault}"),
+            Error::EmptyPatch => f.write_str("patch: no value"),
+            Error::NotString => f.write_str("value is not a string"),
+            Error::NoRoot => f.write_str("no value"),
+            Error::NonFinite(fault) => write!(f, "JSON has no such number on line {} column {}", fault.line, fault.column),
             Error::NoSuchValue(made) => write!(f, "Operation {made}: Pointer leads to nothing"),
             Error::RepeatedName(_, fault) => fault.fmt(f),
             Error::IntoItself(made) => write!(f, "Operation {made}: Value cannot be moved into itself"),
             Error::NotEqual(made) => write!(f, "Operation {made}: Value is another"),
             Error::NoRoom(len) => write!(f, "the text has {len} bytes"),
             Error::OutOfMemory => f.write_str("Out of memory"),
-            Error::Other(status) => write!(f, "status {status}"),
+            Error::Other(status) => f.write_str(said(*status)),
         }
     }
 }

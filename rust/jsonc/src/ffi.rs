@@ -52,7 +52,7 @@ pub const NO_SUCH_EDIT: u32 = 16;
 pub const NO_ROOM: u32 = 17;
 /// Anything else. No call answers it.
 pub const OTHER: u32 = 18;
-/// The pointer is none. The fault tells what is wrong with it.
+/// The pointer is no JSON Pointer. The fault tells what is wrong with it.
 pub const POINTER: u32 = 19;
 /// A pointer leads to nothing.
 pub const NO_SUCH_VALUE: u32 = 20;
@@ -72,6 +72,48 @@ pub const LINE_CONTINUES: u32 = 26;
 pub const NOT_AN_ENTRY: u32 = 27;
 /// A value would be nested deeper in the document than texts are parsed.
 pub const NESTED_TOO_DEEP: u32 = 28;
+/// The value that the pointer refers to is no string.
+pub const NOT_STRING: u32 = 29;
+/// The text has no value.
+pub const NO_ROOT: u32 = 30;
+/// A number of the text is `Infinity` or `NaN`, which JSON does not have. The fault tells where.
+pub const NON_FINITE: u32 = 31;
+
+/// What each status says.
+pub const STATUSES: [(u32, &str); 32] = [
+    (OK, "It succeeded"),
+    (OUT_OF_MEMORY, "An allocation failed"),
+    (WORD_NOT_UTF8, "A name, comment, path, pointer or JSON text is not UTF-8"),
+    (NOT_UTF8, "The text is not UTF-8"),
+    (TEXT, "The text is no document"),
+    (PATH, "The path is no document"),
+    (NOT_NAMES, "The path is no array of strings"),
+    (JSON, "The JSON text of a value or patch is no document"),
+    (NO_VALUE, "The JSON text has no value"),
+    (NOT_OBJECT, "The document's value is no object"),
+    (NOT_ARRAY, "The document's value is no array"),
+    (NO_SETTING, "Nothing stands at the path"),
+    (ON_THE_WAY, "A value of another kind than an object stands on the path"),
+    (NO_SUCH_PLACE, "The path of an edit leads to nothing that it needs, or no comment has its number"),
+    (MISSING_BRACKETS, "An array or object lacks a bracket"),
+    (MISSING_NAME, "A property lacks its name or colon"),
+    (NO_SUCH_EDIT, "No edit has this kind"),
+    (NO_ROOM, "The caller's buffer is too small"),
+    (OTHER, "Anything else"),
+    (POINTER, "The pointer is no JSON Pointer"),
+    (NO_SUCH_VALUE, "A pointer leads to nothing"),
+    (REPEATED_NAME, "A name stands twice in an object where it is looked up, or in one of a merge patch"),
+    (NOT_PATCH, "The patch is no array, or an operation is none"),
+    (INTO_ITSELF, "A value was to be moved into itself"),
+    (NOT_EQUAL, "A value is not equal to the one that it was tested against"),
+    (INVALID_COMMENT, "The text of a comment that is to be inserted is not one comment and nothing else"),
+    (LINE_CONTINUES, "A comment that ends with its line is to be inserted, and something follows there on the line"),
+    (NOT_AN_ENTRY, "A comment is to be inserted at a node that is no entry"),
+    (NESTED_TOO_DEEP, "A value would be nested deeper in the document than texts are parsed"),
+    (NOT_STRING, "The value that the pointer refers to is no string"),
+    (NO_ROOT, "The text has no value"),
+    (NON_FINITE, "A number of the text is `Infinity` or `NaN`, which JSON does not have"),
+];
 
 pub const ALLOW_COMMENTS: u32 = 1;
 pub const ALLOW_LOOSE_OBJECT_PROPERTY_NAMES: u32 = 2;
@@ -390,6 +432,27 @@ unsafe extern "C" {
     /// where it is looked up. 28: a value would be nested deeper than texts are parsed.
     pub fn jsonc_merge_patch(text: *const u8, text_len: usize, patch: *const u8, patch_len: usize, options: u32, out: *mut Slice<u8>, fault: *mut Fault) -> u32;
 
+    /// Hands out the path of the value that a JSON Pointer (RFC 6901) refers to, as an edit takes it.
+    ///
+    /// Each step is a place among elements or properties, from 0. The path of a member's value is that of the
+    /// member. In a list of edits each path is one of the text after the edits before it.
+    ///
+    /// 0: it is done. 1, 3 and 4 as of `jsonc_check`. 2 and 19: the pointer is not UTF-8, or none. 20: it
+    /// refers to nothing. 21: a name on its way stands twice in its object.
+    pub fn jsonc_path_of(text: *const u8, text_len: usize, pointer: *const u8, pointer_len: usize, options: u32, out: *mut Slice<usize>, fault: *mut Fault) -> u32;
+
+    /// Hands out the string that a JSON Pointer (RFC 6901) refers to, its escapes decoded and without quotes.
+    ///
+    /// 29: the value that it refers to is no string. Else as `jsonc_find`.
+    pub fn jsonc_find_string(text: *const u8, text_len: usize, pointer: *const u8, pointer_len: usize, options: u32, out: *mut Slice<u8>, fault: *mut Fault) -> u32;
+
+    /// Removes the element or property to which a JSON Pointer (RFC 6901) leads, with the comments that belong
+    /// to it, and hands out the text after it. Of equal names the first leads on.
+    ///
+    /// 0: it is done. 1, 3 and 4 as of `jsonc_check`. 2 and 19: the pointer is not UTF-8, or none. 20: it leads
+    /// to no element or property.
+    pub fn jsonc_remove_with_comments(text: *const u8, text_len: usize, pointer: *const u8, pointer_len: usize, options: u32, out: *mut Slice<u8>, fault: *mut Fault) -> u32;
+
     /// Tells every fault of a text with a change for it, and hands out the text with all changes made, which is
     /// a document.
     ///
@@ -406,6 +469,12 @@ unsafe extern "C" {
     /// any other has each entry on a line of its own. The text can be longer than it was by its depth: a line
     /// begins with one level of indent for each array and object that is open.
     pub fn jsonc_format(text: *const u8, text_len: usize, options: u32, style: *const Style, out: *mut Slice<u8>, fault: *mut Fault) -> u32;
+
+    /// Hands out the text as JSON (RFC 8259), with the same value, without comments and trailing commas.
+    ///
+    /// 0: it is done. 1, 3 and 4 as of `jsonc_check`. 30: the text has no value. 31: a number of it is
+    /// `Infinity` or `NaN`, perhaps with a sign, and the fault tells its place, line and column.
+    pub fn jsonc_to_json(text: *const u8, text_len: usize, options: u32, out: *mut Slice<u8>, fault: *mut Fault) -> u32;
 
     /// Writes the text that the document prints into a buffer, as `jsonc_print` hands it out.
     ///

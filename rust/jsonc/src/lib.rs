@@ -14,6 +14,7 @@
 //!
 //! All `unsafe` of this crate is in the modules `calls` and `text`, each with what it rests on.
 mod calls;
+mod document;
 mod edit;
 mod error;
 mod ffi;
@@ -22,8 +23,10 @@ mod mends;
 mod text;
 
 pub use calls::{append, apply_patch, check, drop_at, edit, find, format, get, mend, merge_patch, print, put, remove, set, sort};
+pub use calls::{find_string, path_of, remove_with_comments, to_json};
 pub use calls::{append_into, apply_patch_into, drop_at_into, edit_into, find_into, format_into, get_into, merge_patch_into};
 pub use calls::{print_into, put_into, remove_into, set_into, sort_into};
+pub use document::Document;
 pub use edit::{Edit, Place, Shape};
 pub use error::{Error, Fault};
 pub use format::{Level, LineEnd, Style};

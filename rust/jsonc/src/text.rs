@@ -1,4 +1,4 @@
-//! Texts that the library handed out.
+//! Texts and lists that the library handed out.
 use crate::ffi;
 use std::fmt;
 use std::ops::Deref;
@@ -57,16 +57,18 @@ impl fmt::Display for Text {
     }
 }
 
-/// What a call is given to write its mends behind: a pointer that is not null, and no mends.
-pub(crate) const NO_MENDS: ffi::Slice<ffi::Mend> = ffi::Slice { at: std::ptr::dangling(), len: 0 };
+/// What a call is given to write a list behind: a pointer that is not null, and nothing there.
+pub(crate) const fn nothing<T>() -> ffi::Slice<T> {
+    ffi::Slice { at: std::ptr::dangling(), len: 0 }
+}
 
-/// Copies the mends of a slice that a call has written, and frees it.
-pub(crate) fn mends_of(slice: ffi::Slice<ffi::Mend>) -> Vec<ffi::Mend> {
-    // SAFETY: the pointer is not null, and so many mends are there.
-    let mends = unsafe { std::slice::from_raw_parts(slice.at, slice.len) }.to_vec();
+/// Copies the list of a slice that a call has written, and frees it.
+pub(crate) fn list_of<T: Copy>(slice: ffi::Slice<T>) -> Vec<T> {
+    // SAFETY: the pointer is not null, and so many values are there.
+    let list = unsafe { std::slice::from_raw_parts(slice.at, slice.len) }.to_vec();
     if slice.len > 0 {
         // SAFETY: a list that is not empty is one block of `malloc`, which no one else holds.
         unsafe { ffi::free(slice.at.cast_mut().cast()) }
     }
-    mends
+    list
 }

@@ -1,6 +1,6 @@
 //! Each call: its text, its faults, and its threads.
-use jsonc::{Edit, Error, Level, LineEnd, Options, Place, Shape, Style, append, apply_patch, check, drop_at, edit, find, format, get, mend};
-use jsonc::{merge_patch, print, put};
+use jsonc::{Document, Edit, Error, Level, LineEnd, Options, Place, Shape, Style, append, apply_patch, check, drop_at, edit, find, format, get, mend};
+use jsonc::{find_string, merge_patch, path_of, print, put, remove_with_comments, to_json};
 use jsonc::{append_into, apply_patch_into, drop_at_into, edit_into, find_into, format_into, get_into, merge_patch_into, print_into};
 use jsonc::{put_into, remove, remove_into, set, set_into, sort, sort_into};
 
@@ -194,6 +194,54 @@ fn pointers_find_values() {
 }
 
 #[test]
+fn pointers_lead_to_paths_and_strings() {
+    // (RFC 6901, 4; RFC 8259, 7)
+    assert_eq!(path_of(TEXT, Options::ALL, "/b/c/1"), Ok(Some(vec![1, 0, 1])));
+    assert_eq!(path_of(TEXT, Options::ALL, ""), Ok(Some(vec![])));
+    assert_eq!(path_of(TEXT, Options::ALL, "/b/c/2"), Ok(None));
+    assert!(matches!(path_of(TEXT, Options::ALL, "b"), Err(Error::Pointer(_))));
+    assert!(matches!(path_of(r#"{"a": 1, "a": 2}"#, Options::ALL, "/a"), Err(Error::RepeatedName(0, _))));
+    let text = r#"{"a": "\"\\\n\u00e9\ud834\udd1e", "b": 1}"#;
+    assert_eq!(find_string(text, Options::JSON, "/a").expect("it is found").as_deref(), Some("\"\\\n\u{e9}\u{1d11e}"));
+    assert!(find_string(text, Options::JSON, "/c").expect("it is followed").is_none());
+    assert_eq!(find_string(text, Options::JSON, "/b").map(drop), Err(Error::NotString));
+}
+
+#[test]
+fn an_entry_is_removed_with_its_comments() {
+    assert_eq!(made(remove_with_comments(TEXT, Options::ALL, "/a")), "{\n  \"b\": {\"c\": [1, 2]},\n}\n");
+    assert_eq!(remove_with_comments(TEXT, Options::ALL, "/z").map(drop), Err(Error::NoSuchValue(0)));
+}
+
+#[test]
+fn a_text_is_written_as_json() {
+    assert_eq!(made(to_json("{a: 0x1F, /* c */ 'b': +.5,}", Options::ALL)), "{\"a\": 31,  \"b\": 0.5}");
+    assert_eq!(to_json("// c", Options::ALL).map(drop), Err(Error::NoRoot));
+    let Err(Error::NonFinite(fault)) = to_json("[1,\n NaN]", Options::ALL) else { panic!("it has a NaN") };
+    assert_eq!((fault.range.start, fault.line, fault.column), (5, 2, 2));
+}
+
+#[test]
+fn a_document_keeps_its_text() -> Result<(), Error> {
+    let mut document = Document::parse(TEXT, Options::ALL)?;
+    let path = document.path_of("/b/c/0")?.expect("it is there");
+    document.edit(&[Edit::Replace { path, value: "9".to_string() }])?;
+    assert_eq!(document.text(), TEXT.replace("[1, 2]", "[9, 2]"));
+    assert_eq!(document.edit(&[Edit::Remove { path: vec![7] }]), Err(Error::NoSuchPlace(0)));
+    document.apply_patch(r#"[{"op": "replace", "path": "/a", "value": "x"}]"#)?;
+    document.merge_patch(r#"{"b": {"c": 3}}"#)?;
+    assert_eq!(document.text(), TEXT.replace("[1, 2]", "3").replace("\"a\": 1", "\"a\": \"x\""));
+    assert_eq!(document.find_string("/a")?.as_deref(), Some("x"));
+    document.remove_with_comments("/a")?;
+    assert_eq!(document.find("/b")?.as_deref(), Some("{\"c\": 3}"));
+    assert_eq!(&*document.to_json()?, "{\n  \"b\": {\"c\": 3}\n}\n");
+    document.format(Style { expand: true, ..Style::default() })?;
+    assert_eq!(document.text(), "{\n  \"b\": {\n    \"c\": 3\n  },\n}\n");
+    assert!(matches!(Document::parse("[1,", Options::ALL), Err(Error::Text(_))));
+    Ok(())
+}
+
+#[test]
 fn patches_are_made_whole_or_not() {
     // (RFC 6902, appendix A: 4, 5, 8, and of those that are errors 9, 12 and 13)
     let patched = |text: &str, patch: &str| apply_patch(text, Options::JSONC, patch);
@@ -219,7 +267,9 @@ fn patches_are_made_whole_or_not() {
         assert_eq!((number, fault.kind, fault.range), (before, kind, place..place), "{patch}");
     }
     // (it is read under the options of the document)
-    assert!(matches!(apply_patch("[]", Options::JSON, "[/* c */]"), Err(Error::Json(_))));
+    let Err(Error::NotPatch(0, fault)) = apply_patch("[]", Options::JSON, "[/* c */]") else { panic!("it has a comment") };
+    assert_eq!((fault.kind, fault.line, fault.column), ("COMMENTS_NOT_ALLOWED", 1, 2));
+    assert_eq!(Error::NotPatch(0, fault).to_string(), "patch: Comments are not allowed on line 1 column 2");
     let twice = patched(r#"{ "a": 1, "a": 2 }"#, r#"[{ "op": "remove", "path": "/a" }]"#);
     let Err(Error::RepeatedName(0, fault)) = twice else { panic!("the name stands twice: {twice:?}") };
     assert_eq!(fault.to_string(), "Operation 0: Name stands twice: \"a\"");
@@ -246,8 +296,9 @@ fn merge_patches_are_merged() {
         let Err(Error::RepeatedName(0, fault)) = merge_patch(text, Options::JSON, patch) else { panic!("the name stands twice") };
         assert_eq!(fault.to_string(), "Name stands twice: a");
     }
-    assert!(matches!(merge_patch("1", Options::ALL, "// c"), Err(Error::NoValue)));
-    assert!(matches!(merge_patch("1", Options::JSON, "[2,]"), Err(Error::Json(_))));
+    assert!(matches!(merge_patch("1", Options::ALL, "// c"), Err(Error::EmptyPatch)));
+    assert!(matches!(merge_patch("1", Options::JSON, "[2,]"), Err(Error::NotPatch(0, _))));
+    assert_eq!(merge_patch_into("1", Options::ALL, "// c", &mut []), Err(Error::EmptyPatch));
 }
 
 #[test]
