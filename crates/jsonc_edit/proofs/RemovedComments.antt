@@ -1,20 +1,18 @@
 -- What is made of a document where a comment leaves it.
 use Rattle.std.proofs.Common.{◌≡◌, ℕ, List, [], ◌∷◌, sym, ap, subst, ◌∙◌, chars}
 use Rattle.jsonc_text.specs.Options.{Options}
-use Rattle.jsonc_text.specs.Grammar.{IsDocument}
 use Rattle.jsonc_tree.specs.Content.{root, comment}
 use Rattle.jsonc_tree.specs.OrderedTree.{leaves, ordered_tree}
 use Rattle.jsonc_tree.specs.Tree.{Node, content_at, IsTree, IsOver}
 use Rattle.jsonc_layout.specs.nodes.Kinds.{is_comment}
-use Rattle.jsonc_sound.specs.Shape.{printed_text}
+use Rattle.jsonc_sound.specs.Edited.{ValueKept}
 use Rattle.jsonc_sound.specs.MarkChanges.{MarksDifferIn}
 use Rattle.jsonc_sound.specs.Marks.{comment_mark, marks}
 use Rattle.jsonc_sound.specs.SoundTrees.{SoundTree}
-use Rattle.jsonc_sound.proofs.ShapeValues.{document_printed}
 use Rattle.jsonc_sound.proofs.ReplacedStretches.{one_mark_leaves}
-use Rattle.jsonc_edit.specs.Comments.{RemovesComment, RemovesCommentAlone, CommentTaken, IsCommentRemoved, LosesComment, TakesOut}
-use Rattle.jsonc_edit.proofs.OneValue.{document_once}
+use Rattle.jsonc_edit.specs.Comments.{RemovesComment, RemovesCommentAlone, CommentTaken, LosesComment, TakesOut}
 use Rattle.jsonc_edit.proofs.Spacing.{spaces_marks}
+use Rattle.jsonc_edit.proofs.SoundValues.{value_kept}
 use Rattle.jsonc_edit.proofs.TakingOut.{loses_comment, taken_sound, taken_value, text_stays}
 
 module _ (old new : List Node) (n : ℕ) (r : CommentTaken old new n) where
@@ -25,13 +23,8 @@ module _ (old new : List Node) (n : ℕ) (r : CommentTaken old new n) where
       subst (λ x. MarksDifferIn (comment_mark (chars x) ∷ []) [] (marks (ordered_tree old 0)) (marks (ordered_tree new 0))) (text_stays old new n r s is)
       (subst (λ x. MarksDifferIn (comment_mark (chars lost.text) ∷ []) [] x (marks (ordered_tree new 0))) (spaces_marks lost.spaces) m)
 
-  comment_gone : (o : Options) (s : List ℕ) → content_at old n ≡ comment s → SoundTree o (ordered_tree old 0) → IsCommentRemoved o s (ordered_tree old 0) (ordered_tree new 0)
-  comment_gone o s is sound =
-      let after = taken_sound old new n r o sound in
-      let was = document_printed o (ordered_tree old 0) sound.shaped sound.lines in
-      let now = document_printed o (ordered_tree new 0) after.shaped after.lines in
-      let same : now.0 ≡ was.0 = document_once o (ordered_tree new 0) now.0 was.0 now.2 (taken_value old new n r o was.0 was.2) in
-      record { value = was.0; old_text = was.1; new_text = subst (IsDocument o (printed_text (ordered_tree new 0))) same now.1; marked = mark_gone s is; sound = after }
+  comment_gone : (o : Options) (s : List ℕ) → content_at old n ≡ comment s → SoundTree o (ordered_tree old 0) → ValueKept o o (MarksDifferIn (comment_mark (chars s) ∷ []) []) (ordered_tree old 0) (ordered_tree new 0)
+  comment_gone o s is sound = value_kept (MarksDifferIn (comment_mark (chars s) ∷ []) []) o o sound (taken_sound old new n r o sound) (taken_value old new n r o) (mark_gone s is)
 
 -- what was taken out is a comment that was taken out of the document
 comment_is_taken : (old new : List Node) → IsTree old → IsTree new → (n : ℕ) → TakesOut old new n → IsOver old 0 n → (s : List ℕ) → content_at old n ≡ comment s → CommentTaken old new n

@@ -2,12 +2,9 @@
 use Rattle.std.proofs.Common.{◌≡◌, ℕ, ◌<◌, false, List, [], length, Option, Some, None, Result, Ok, Err, IfOk, IfSome, IsTrue, sym, subst, ◌∙◌, arith}
 use Rattle.jsonc_text.specs.Options.{Options}
 use Rattle.jsonc_text.specs.Plain.{Plain}
-use Rattle.jsonc_text.specs.Grammar.{IsDocument}
-use Rattle.jsonc_tree.specs.OrderedTree.{OrderedTree, ordered_tree, leaves, Top}
+use Rattle.jsonc_tree.specs.OrderedTree.{ordered_tree, leaves, Top}
 use Rattle.jsonc_tree.specs.Tree.{Node, content_at, children_at, parent_at, IsTree, IsOver}
 use Rattle.jsonc_tree.proofs.Order.{parent_there}
-use Rattle.jsonc_tree.specs.Values.{DocumentValueOf}
-use Rattle.jsonc_sound.specs.Shape.{printed_text}
 use Rattle.jsonc_sound.specs.Lines.{LinesEnd}
 use Rattle.jsonc_layout.specs.nodes.Kinds.{is_element_at}
 use Rattle.jsonc_layout.specs.from_input.Layout.{Layout}
@@ -23,7 +20,8 @@ use Rattle.jsonc_sound.proofs.LeavesAround.{document_differs}
 use Rattle.jsonc_sound.proofs.Values.{document_change}
 use Rattle.jsonc_sound.specs.SoundTrees.{SoundTree}
 use Rattle.jsonc_sound.specs.Spaces.{is_bare}
-use Rattle.jsonc_sound.proofs.ShapeValues.{document_printed}
+use Rattle.jsonc_sound.specs.Changes.{Changed}
+use Rattle.jsonc_sound.specs.Written.{written}
 use Rattle.jsonc_edit.specs.Due.{spaces_needed_around}
 use Rattle.jsonc_edit.proofs.UnneededSpaces.{none_due}
 use Rattle.jsonc_edit.specs.Changes.{top_at}
@@ -43,17 +41,9 @@ use Rattle.jsonc_edit.proofs.ValuePlaces.{HeldAt, by_root, by_array, by_property
 use Rattle.jsonc_edit.proofs.NodesKept.{at_kept, top_stays, tree_stays}
 use Rattle.jsonc_edit.proofs.SpacedNodes.{IsChild, around_placed}
 use Rattle.jsonc_edit.proofs.Spacing.{Spaced, all_spaced, spaces_marks, spaces_sound, spaces_value}
-use Rattle.jsonc_edit.proofs.OneValue.{document_once}
 use Rattle.jsonc_edit.proofs.Uniqueness.{element_parent, over_at}
 use Rattle.jsonc_edit.proofs.Writable.{value_may_stand}
-use Rattle.jsonc_edit.proofs.SoundValues.{means_some, prints_value}
-
--- a sound document has the value that it has once spaces have come
-means_first : (o : Options) {t u : OrderedTree} → SpacesPut t u → SoundTree o t → (x : Plain) → DocumentValueOf o u (Some x) → IsDocument o (printed_text t) (Some x) × DocumentValueOf o t (Some x)
-means_first o {t} {u} puts s x value =
-    let known = document_printed o t s.shaped s.lines in
-    let same : known.0 ≡ Some x = document_once o u known.0 (Some x) (spaces_value o known.0 puts known.2) value in
-    (subst (IsDocument o (printed_text t)) same known.1, subst (DocumentValueOf o t) same known.2)
+use Rattle.jsonc_edit.proofs.SoundValues.{value_edited}
 
 -- it is an element, and somebody's child
 pub at_child : (ns : List Node) → IsTree ns → (n : ℕ) → HeldAt ns n → IsChild ns n × IsElement (content_at ns n)
@@ -118,28 +108,19 @@ module _ (o : Options) (old new : List Node) (n m : ℕ) where
   written_at layout v path tree s at f w g =
       let puts = put old new n m (laid layout v) tree g path at in
       let change = changed old new n m (laid layout v) tree g path at in
-      let before = spaces_sound o puts s in
       let is = in_place g.spaced new n m (laid layout v) g.place in
-      let was = means_some o change (document_printed o (ordered_tree g.spaced 0) before.shaped before.lines) in
-      let first = means_first o puts s was.value was.tree in
-      let now = laid_out_changes layout v tree w.texts g path was.value first.1 at in
       let fit = value_may_stand o layout v f w in
       let sound = sound_still old new n m (laid layout v) tree g path at o s fit.shaped fit.lines in
       record {
-        given_up = now.0;
-        before = was.value;
-        after = now.1;
         spaced = ordered_tree g.spaced 0;
-        old_text = first.0;
-        new_text = prints_value o (ordered_tree new 0) (Some now.1) sound now.4;
-        changed = now.3;
         spaces = puts;
         around = subst (λ (t : Top). DiffersIn (leaves_of (top_at old n)) (leaves_of t) (leaves (ordered_tree g.spaced 0)) (leaves (ordered_tree new 0))) (sym is.put) (document_differs change);
-        marked =
-            subst (λ l. MarksDifferIn (marks_under (top_at old n)) l (marks (ordered_tree old 0)) (marks (ordered_tree new 0))) (laid_as_written layout v w.texts)
+        is =
+            value_edited (MarksDifferIn (marks_under (top_at old n)) (written v)) o (λ x y. (given_up : Plain) × Changed given_up v path x y) puts change s sound
+            (λ x has. let now = document_change o x v change (laid_value o layout v w.texts) has in (now.1, now.4, (now.0, now.3)))
+            (subst (λ l. MarksDifferIn (marks_under (top_at old n)) l (marks (ordered_tree old 0)) (marks (ordered_tree new 0))) (laid_as_written layout v w.texts)
             (subst (λ l. MarksDifferIn (marks_under (top_at old n)) (marks_under (laid layout v)) l (marks (ordered_tree new 0))) (spaces_marks puts)
-            (values_marks (ordered_tree g.spaced 0) (top_at old n) (laid layout v) path (ordered_tree new 0) change));
-        sound = sound;
+            (values_marks (ordered_tree g.spaced 0) (top_at old n) (laid layout v) path (ordered_tree new 0) change)));
       }
 
   pub laid_out_written : (layout : Layout) (v : Plain) → WritesLaidOut o old new n m layout v

@@ -2,7 +2,6 @@
 use Rattle.std.specs.Prelude.{◌≡◌, ℕ, zero, suc, ◌+◌, List, [], ◌∷◌, ◌++◌, Option, Some, None, chars, codes, filter, length, map, slice_index, slice_range, if◌then◌else◌, IsTrue}
 use Rattle.jsonc_text.specs.Options.{Options}
 use Rattle.jsonc_text.specs.Plain.{Plain}
-use Rattle.jsonc_text.specs.Grammar.{IsDocument}
 use Rattle.jsonc_tree.specs.Content.{Content, root, array, token, whitespace, newline, comment}
 use Rattle.jsonc_tree.specs.declared.node.CstNewlineKind.TheVariants.{LineFeed}
 use Rattle.std.specs.List.{slice_get}
@@ -13,12 +12,12 @@ use Rattle.jsonc_tree.specs.Tree.{Node, content_at, parent_at, children_at, plac
 use Rattle.jsonc_tree.specs.Values.{DocumentValueOf}
 use Rattle.jsonc_layout.specs.nodes.Kinds.{is_whitespace_at, is_newline_at, is_comment_at}
 use Rattle.jsonc_sound.specs.Lines.{is_line_comment}
-use Rattle.jsonc_sound.specs.Shape.{printed_text}
 use Rattle.jsonc_sound.specs.ChangeLaws.{DiffersIn}
+use Rattle.jsonc_sound.specs.Edited.{ValueKept}
 use Rattle.jsonc_sound.specs.TriviaChanges.{AreTrivia, StretchChanged, EndsInComment}
 use Rattle.jsonc_sound.specs.SoundTrees.{SoundTree}
 use Rattle.jsonc_sound.specs.MarkChanges.{AreBlanks, MarksDifferIn}
-use Rattle.jsonc_sound.specs.Marks.{comment_mark, comments_of, marks, marks_of}
+use Rattle.jsonc_sound.specs.Marks.{comment_mark, comments_of, marks_of}
 use Rattle.jsonc_edit.specs.Due.{space_needed_between, listed}
 use Rattle.jsonc_edit.specs.Put.{AreSpaced, IfDue, Extends}
 use Rattle.jsonc_edit.specs.Spaced.{SpacesPut}
@@ -116,19 +115,11 @@ abbrev pub HasLeavesWithout : List Node → List Node → ℕ → Type 0
 HasLeavesWithout old new n =
     CommentTaken old new n → (loses : LosesComment (ordered_tree old 0) (ordered_tree new 0)) × ((number : ℕ) → comment_at old number ≡ Some n → comments_ahead loses ≡ number)
 
--- The document is one again, with the value that it had, or none as before; of its marks that of the comment of this text alone has left; and it is sound.
-pub record IsCommentRemoved (o : Options) (s : List ℕ) (t u : OrderedTree) : Type 0 where
-  pub value : Option Plain
-  pub old_text : IsDocument o (printed_text t) value
-  pub new_text : IsDocument o (printed_text u) value
-  pub marked : MarksDifferIn (comment_mark (chars s) ∷ []) [] (marks t) (marks u)
-  pub sound : SoundTree o u
-
--- so it is if the old document is sound, and n the comment of this text in it
+-- if the old document is sound, and n the comment of this text in it, of the marks that of the comment alone is removed
 abbrev pub RemovesComment : Options → List Node → List Node → ℕ → Type 0
 RemovesComment o old new n =
     SoundTree o (ordered_tree old 0) → IsOver old 0 n → (s : List ℕ) → content_at old n ≡ comment s
-    → IsCommentRemoved o s (ordered_tree old 0) (ordered_tree new 0)
+    → ValueKept o o (MarksDifferIn (comment_mark (chars s) ∷ []) []) (ordered_tree old 0) (ordered_tree new 0)
 
 -- and all leaves around it stay, but for the blanks before it that leave with it, in a document that is not sound too
 abbrev pub RemovesCommentAlone : List Node → List Node → ℕ → Type 0

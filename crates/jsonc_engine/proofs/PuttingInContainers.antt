@@ -77,7 +77,7 @@ module _ (o : Options) (old made : List Node) where
   -- a document that has got its first value, or is the same, is sound where it was
   sound_by : (shape : Shape) → IsTree old → SoundTree o (ordered_tree old 0) → (w answer : Option ℕ) → value_at old 0 ≡ w
       → FoundOrCreated (is_of shape) (empty_of shape) old made w answer → SoundTree o (ordered_tree made 0)
-  sound_by shape tree s None answer e (m, told, f) = (gives_first_value o old made (empty_of shape) m tree s e (empty_writable o shape) f).after.sound
+  sound_by shape tree s None answer e (m, told, f) = (gives_first_value o old made (empty_of shape) m tree s e (empty_writable o shape) f).new.sound
   sound_by shape tree s (Some n) answer e (told, same) = subst (λ (ns : List Node). SoundTree o (ordered_tree ns 0)) (sym same) s
 
   -- where none of the shape was found another value stands
@@ -86,7 +86,7 @@ module _ (o : Options) (old made : List Node) where
   another_by shape tree s None e (m, told, f) = none_is_some m told
   another_by shape tree s (Some n) e (told, same) =
       let h = held o old tree s n e in
-      (h.value, h.text, sym (h.error shape) ∙ if_none (is_of shape (content_at old n)) n told)
+      (h.value, h.says.text, sym (h.error shape) ∙ if_none (is_of shape (content_at old n)) n told)
 
   pub no_array : (v : Plain) → IsTree old → SoundTree o (ordered_tree old 0) → (found : Option CstArray) → found ≡ None → CreatesArray old made found
       → HasAnother is_array o (printed (ordered_tree old 0))

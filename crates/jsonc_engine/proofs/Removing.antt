@@ -127,7 +127,7 @@ module _ (o : Options) (ns : List Node) (tree : IsTree ns) (sound : SoundTree o 
       no_value at (plain.object ms) (subst (DocumentValueOf o (ordered_tree ns 0)) same text.2)
   from_value (Some n) at read = λ ms is.
       let h = held o ns tree sound n at in
-      let same : Some h.value ≡ Some (plain.object ms) = document_unique o (printed_text (ordered_tree ns 0)) (Some h.value) (Some (plain.object ms)) h.text is in
+      let same : Some h.value ≡ Some (plain.object ms) = document_unique o (printed_text (ordered_tree ns 0)) (Some h.value) (Some (plain.object ms)) h.says.text is in
       let value : h.value ≡ plain.object ms = cc in
       no_object_read ns n read (object_is (content_at ns n) (h.error Object ∙ ap (Rattle.jsonc_edit.specs.set.Shapes.is_object) value))
 

@@ -73,7 +73,7 @@ module _ (o : Options) (ns : List Node) (tree : IsTree ns) (sound : SoundTree o 
   pub of_shape : (shape : Shape) (n : ℕ) (b : Bool) → value_at ns 0 ≡ Some n → is_of shape (content_at ns n) ≡ b → (x : Plain) × IsDocument o (chars bytes) (Some x) × (has_shape shape x ≡ b)
   of_shape shape n b e is =
       let h = held o ns tree sound n e in
-      (h.value, h.text, sym (h.error shape) ∙ is)
+      (h.value, h.says.text, sym (h.error shape) ∙ is)
 
   pub has_object : (x : CstObject) → object_if (typed_if ns (value_at ns 0)) ≡ Some x → HasKind is_object o bytes
   has_object x read =

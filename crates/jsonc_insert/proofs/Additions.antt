@@ -22,7 +22,7 @@ use Rattle.jsonc_edit.proofs.Splices.{spliced_in}
 use Rattle.jsonc_layout.specs.from_input.Layout.{Layout}
 use Rattle.jsonc_insert.specs.Inserted.{NodesMade}
 use Rattle.jsonc_layout.specs.Building.{IsFresh}
-use Rattle.jsonc_insert.specs.declared.plan.Plan.{Plan}
+use Rattle.jsonc_insert.specs.Plans.{Plan}
 use Rattle.jsonc_insert.proofs.NoDuplicates.{all_parts, once_right}
 
 pub whole_row : (xs ys : List ℕ) → splice xs 0 (length xs) ys ≡ ys

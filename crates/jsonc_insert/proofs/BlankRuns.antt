@@ -90,7 +90,7 @@ module _ (p : ℕ → Bool) where
   run_stops [] ys y e = take_while-cons p y ys ∙ ap (λ b. cond b (y ∷ take_while p ys) []) e
   run_stops (x ∷ xs) ys y e = take_while-cons p x (xs ++ y ∷ ys) ∙ ap (λ l. cond (p x) (x ∷ l) []) (run_stops xs ys y e) ∙ sym (take_while-cons p x xs)
 
-  run_all : (xs ys : List ℕ) (y : ℕ) → All (λ m. p m ≡ true) xs → p y ≡ false → take_while p (xs ++ y ∷ ys) ≡ xs
+  pub run_all : (xs ys : List ℕ) (y : ℕ) → All (λ m. p m ≡ true) xs → p y ≡ false → take_while p (xs ++ y ∷ ys) ≡ xs
   run_all [] ys y all e = run_stops [] ys y e
   run_all (x ∷ xs) ys y all e =
       take_while-cons p x (xs ++ y ∷ ys) ∙ ap (λ b. cond b (x ∷ take_while p (xs ++ y ∷ ys)) []) (all 0 0 (omega arith)) ∙ ap (λ l. x ∷ l) (run_all xs ys y (λ k d h. all (suc k) d (omega (arith, h))) e)

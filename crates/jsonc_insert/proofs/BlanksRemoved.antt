@@ -13,7 +13,7 @@ use Rattle.jsonc_insert.specs.Laws.{LosesBlanksAlone}
 use Rattle.jsonc_insert.specs.Trimmed.{first_gone, last_gone, trimmed, with_at, without}
 use Rattle.jsonc_layout.specs.nodes.Kinds.{is_blank_at}
 use Rattle.jsonc_insert.specs.declared.trim.Stretch.{Stretch}
-use Rattle.jsonc_insert.specs.declared.plan.Plan.{Plan}
+use Rattle.jsonc_insert.specs.Plans.{Plan}
 use Rattle.jsonc_insert.proofs.Numbering.{element_row, whole}
 use Rattle.jsonc_insert.proofs.RowReplaced.{IsRowFor}
 use Rattle.jsonc_insert.proofs.TrimmedRows.{back_blank, first_within, front_blank, has_two, last_high, last_low, shorter_at}

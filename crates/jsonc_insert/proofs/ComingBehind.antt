@@ -19,7 +19,7 @@ use Rattle.jsonc_insert.specs.Made.{comma_at}
 use Rattle.jsonc_insert.specs.Neighbours.{place_behind, AreReady, IsBeside}
 use Rattle.jsonc_insert.specs.Trimmed.{with_at}
 use Rattle.jsonc_insert.specs.declared.neighbours.Neighbours.{Neighbours}
-use Rattle.jsonc_insert.specs.declared.plan.Plan.{Plan}
+use Rattle.jsonc_insert.specs.Plans.{Plan}
 use Rattle.jsonc_insert.proofs.NoDuplicates.{all_parts, once_left, once_right, parts_apart}
 
 splice_low : (xs ys : List ℕ) (g k : ℕ) → g ≤ length xs → k < g → slice_get (splice xs g g ys) k ≡ slice_get xs k

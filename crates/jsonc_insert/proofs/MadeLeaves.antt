@@ -9,7 +9,7 @@ use Rattle.jsonc_layout.proofs.lemmas.Building.{contents_kept, fresh_append, gai
 use Rattle.jsonc_edit.proofs.NodesKept.{built_top, top_stays}
 use Rattle.jsonc_insert.specs.Made.{comma_at, comma_leaf, gap_leaves, BuildsTop}
 use Rattle.jsonc_insert.specs.Inserted.{laid_entry, leaves_before, leaves_behind, NodesMade}
-use Rattle.jsonc_insert.specs.declared.plan.Plan.{Plan}
+use Rattle.jsonc_insert.specs.Plans.{Plan}
 
 -- a comma, the leaves before, the element and the leaves behind were made in turn
 module _ (old a b d ready : List Node) (layout : Layout) (outer : List ℕ) (plan : Plan) (name : Option (List ℕ)) (v : Plain) (m : ℕ) (comma before behind : List ℕ)

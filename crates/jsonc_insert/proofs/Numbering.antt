@@ -23,7 +23,7 @@ use Rattle.jsonc_insert.specs.Trimmed.{trimmed, with_at}
 use Rattle.jsonc_insert.specs.Laws.{ChangesOneRow, KeepsNodesBut, TakesItsNumber}
 use Rattle.jsonc_insert.specs.declared.plan.Gap.{Gap}
 use Rattle.jsonc_insert.specs.declared.plan.Gap.TheVariants.{Nothing, Space, Line}
-use Rattle.jsonc_insert.specs.declared.plan.Plan.{Plan}
+use Rattle.jsonc_insert.specs.Plans.{Plan}
 use Rattle.jsonc_insert.proofs.Additions.{whole_row}
 use Rattle.jsonc_insert.proofs.Counting.{planned_count}
 use Rattle.jsonc_insert.proofs.RowReplaced.{both, made_stands, own_row, row_there, trimmed_row, IsRowFor}

@@ -9,13 +9,13 @@ use Rattle.jsonc_edit.proofs.OneLine.{laid_alike}
 use Rattle.jsonc_edit.proofs.Lists.{either_off}
 use Rattle.jsonc_insert.specs.Inserted.{laid_entry, plan_of, NodesMade}
 use Rattle.jsonc_insert.specs.Made.{comma_leaf, gap_leaves}
-use Rattle.jsonc_insert.specs.Neighbours.{IsBeside, IsTold, SameGaps}
+use Rattle.jsonc_insert.specs.Neighbours.{gaps_of, IsBeside, IsTold, SameGaps}
 use Rattle.jsonc_insert.specs.Planned.{element_before, elements, plan_alone, plan_between, plan_by, plan_first, planned}
 use Rattle.jsonc_insert.specs.Settings.{is_spread, layout_inside, on_several_lines, outer_indent}
 use Rattle.jsonc_insert.specs.declared.neighbours.Neighbours.{Neighbours}
 use Rattle.jsonc_insert.specs.declared.plan.Gap.{Gap}
 use Rattle.jsonc_insert.specs.declared.plan.Gap.TheVariants.{Nothing, Space, Line}
-use Rattle.jsonc_insert.specs.declared.plan.Plan.{Plan}
+use Rattle.jsonc_insert.specs.Plans.{Plan}
 
 -- no line ends beside what is planned on one line
 abbrev pub ends_line : Gap → Bool
@@ -94,7 +94,7 @@ module _ (ns : List Node) (c i : ℕ) (name : Option (List ℕ)) (v : Plain) (b 
         makes = λ ready m comma before behind made.
             subst (λ o. NodesMade ns ready (layout_inside ns c) o (plan_of ns c i name v) name v m comma before behind) from
             (subst (λ k. NodesMade ns ready k outer (plan_of ns c i name v) name v m comma before behind) laid_by
-            (made_alike ns ready l outer (plan_of ns c i name v) b.plan name v m comma before behind told.gaps made));
+            (made_alike ns ready l outer (plan_of ns c i name v) (gaps_of b) name v m comma before behind told.gaps made));
       }
 
   pub told_on_line : (l : Layout) (outer : List ℕ) → on_several_lines ns row name v ≡ false → IsBeside ns c (planned ns false false row i) b → IsTold ns c i name v l outer b
@@ -109,5 +109,5 @@ module _ (ns : List Node) (c i : ℕ) (name : Option (List ℕ)) (v : Plain) (b 
         beside = told;
         makes = λ ready m comma before behind made.
             made_on ns ready l (layout_inside ns c) outer (outer_indent ns c) (plan_of ns c i name v) name v m comma before behind on parts.0 single
-            (made_alike ns ready l outer (plan_of ns c i name v) b.plan name v m comma before behind told.gaps made);
+            (made_alike ns ready l outer (plan_of ns c i name v) (gaps_of b) name v m comma before behind told.gaps made);
       }

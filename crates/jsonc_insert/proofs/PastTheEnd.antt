@@ -13,7 +13,7 @@ use Rattle.jsonc_insert.specs.Laws.{PastTheEnd}
 use Rattle.jsonc_insert.specs.Planned.{element_before, elements, place_in, plan_behind, plan_by, planned}
 use Rattle.jsonc_insert.specs.Settings.{layout_inside, on_several_lines, outer_indent}
 use Rattle.jsonc_insert.specs.Trimmed.{trimmed}
-use Rattle.jsonc_insert.specs.declared.plan.Plan.{Plan}
+use Rattle.jsonc_insert.specs.Plans.{Plan}
 use Rattle.jsonc_insert.proofs.Additions.{whole_row}
 use Rattle.jsonc_insert.proofs.Counting.{found_last, no_last}
 use Rattle.jsonc_insert.proofs.TrimmedRows.{has_two, trimmed_elements}

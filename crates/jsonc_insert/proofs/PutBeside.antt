@@ -9,9 +9,9 @@ use Rattle.jsonc_edit.specs.Put.{Extends}
 use Rattle.jsonc_edit.proofs.NodesKept.{place_kept}
 use Rattle.jsonc_insert.specs.Inserted.{plan_of, put_by, BecomesRow, EntryPut, NodesMade, RowMade}
 use Rattle.jsonc_insert.specs.Planned.{has_brackets}
-use Rattle.jsonc_insert.specs.Neighbours.{place_behind, IsBeside, IsTold}
+use Rattle.jsonc_insert.specs.Neighbours.{gaps_of, place_behind, IsBeside, IsTold}
 use Rattle.jsonc_insert.specs.declared.neighbours.Neighbours.{Neighbours}
-use Rattle.jsonc_insert.specs.declared.plan.Plan.{Plan}
+use Rattle.jsonc_insert.specs.Plans.{Plan}
 use Rattle.jsonc_insert.proofs.Additions.{row_stays}
 use Rattle.jsonc_insert.proofs.RowReplaced.{made_joins, own_row}
 
@@ -40,7 +40,7 @@ module _ (old ready : List Node) (tree : IsTree old) (p : Extends old ready) (c 
     before = before_kept b.comma b.after h.after h.before;
   }
 
-  module _ (brackets : has_brackets old (children_at old c) ≡ true) (i : ℕ) (name : Option (List ℕ)) (v : Plain) (l : Layout) (outer : List ℕ) (b : Neighbours) (told : IsTold old c i name v l outer b) (m : ℕ) (comma before behind : List ℕ) (nodes : NodesMade old ready l outer b.plan name v m comma before behind) where
+  module _ (brackets : has_brackets old (children_at old c) ≡ true) (i : ℕ) (name : Option (List ℕ)) (v : Plain) (l : Layout) (outer : List ℕ) (b : Neighbours) (told : IsTold old c i name v l outer b) (m : ℕ) (comma before behind : List ℕ) (nodes : NodesMade old ready l outer (gaps_of b) name v m comma before behind) where
     abbrev plan : Plan
     plan = plan_of old c i name v
 

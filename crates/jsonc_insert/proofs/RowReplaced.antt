@@ -15,7 +15,7 @@ use Rattle.jsonc_insert.specs.Inserted.{plan_of, put_by, with_comma, RowMade}
 use Rattle.jsonc_layout.specs.Building.{AreFresh, IsFresh}
 use Rattle.jsonc_insert.specs.Planned.{has_brackets}
 use Rattle.jsonc_insert.specs.Trimmed.{trimmed, with_at}
-use Rattle.jsonc_insert.specs.declared.plan.Plan.{Plan}
+use Rattle.jsonc_insert.specs.Plans.{Plan}
 use Rattle.jsonc_insert.specs.members.Opened.{IsOfRow}
 use Rattle.jsonc_insert.proofs.NoDuplicates.{all_parts, all_with_at, once_left, once_right, once_with_at, parts_apart}
 use Rattle.jsonc_insert.proofs.TrimmedRows.{has_two, trimmed_all, trimmed_brackets, trimmed_once}

@@ -16,7 +16,7 @@ use Rattle.jsonc_insert.specs.Planned.{has_brackets, planned}
 use Rattle.jsonc_layout.specs.Building.{AreFresh}
 use Rattle.jsonc_insert.specs.Made.{comma_at, comma_leaf, gap_leaves}
 use Rattle.jsonc_insert.specs.Settings.{layout_inside, on_several_lines, outer_indent}
-use Rattle.jsonc_insert.specs.declared.plan.Plan.{Plan}
+use Rattle.jsonc_insert.specs.Plans.{Plan}
 
 -- the new nodes are the old ones, but that this is the container's row
 pub record BecomesRow (old new : List Node) (c : ℕ) (row : List ℕ) : Type 0 where

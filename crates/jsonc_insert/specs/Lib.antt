@@ -1,4 +1,5 @@
 pub mod Trimmed
+pub mod Plans
 pub mod Planned
 pub mod Settings
 pub mod Made

@@ -8,7 +8,7 @@ use Rattle.jsonc_insert.specs.Inserted.{plan_of, NodesMade, NodesMadeFor}
 use Rattle.jsonc_layout.specs.Building.{AreFresh}
 use Rattle.jsonc_insert.specs.Made.{comma_at}
 use Rattle.jsonc_insert.specs.declared.neighbours.Neighbours.{Neighbours}
-use Rattle.jsonc_insert.specs.declared.plan.Plan.{Plan}
+use Rattle.jsonc_insert.specs.Plans.{Plan}
 
 -- the same comes beside the element
 pub record SameGaps (p q : Plan) : Type 0 where
@@ -17,13 +17,17 @@ pub record SameGaps (p q : Plan) : Type 0 where
   pub comma_behind : p.comma_behind ≡ q.comma_behind
   pub behind : p.behind ≡ q.behind
 
+-- what comes beside the element by its neighbours
+abbrev pub gaps_of : Neighbours → Plan
+gaps_of b = record { comma = b.comma; place = 0; before = b.before; comma_behind = b.comma_behind; behind = b.behind }
+
 -- the place directly behind a child
 abbrev pub place_behind : List Node → ℕ → ℕ
 place_behind ns n = place_at ns n + 1
 
 -- They tell what the plan says for the container's row: the element comes directly behind one of its children, and a comma behind the same or one further in front.
 pub record IsBeside (ns : List Node) (c : ℕ) (plan : Plan) (b : Neighbours) : Type 0 where
-  pub gaps : SameGaps plan b.plan
+  pub gaps : SameGaps plan (gaps_of b)
   pub after : parent_at ns b.after ≡ Some c
   pub place : plan.place ≡ place_behind ns b.after
   pub comma : plan.comma ≡ option_map (place_behind ns) b.comma
@@ -32,7 +36,7 @@ pub record IsBeside (ns : List Node) (c : ℕ) (plan : Plan) (b : Neighbours) : 
 -- They tell what the plan for element number i of the container says; and what is made by this layout is what that element needs.
 pub record IsTold (ns : List Node) (c i : ℕ) (name : Option (List ℕ)) (v : Plain) (layout : Layout) (outer : List ℕ) (b : Neighbours) : Type 0 where
   pub beside : IsBeside ns c (plan_of ns c i name v) b
-  pub makes : (ready : List Node) (m : ℕ) (comma before behind : List ℕ) → NodesMade ns ready layout outer b.plan name v m comma before behind
+  pub makes : (ready : List Node) (m : ℕ) (comma before behind : List ℕ) → NodesMade ns ready layout outer (gaps_of b) name v m comma before behind
       → NodesMadeFor ns ns ready c i name v m comma before behind
 
 -- What comes beside them was made since, and is detached; the comma is a leaf.

@@ -9,16 +9,11 @@ use Rattle.jsonc_layout.specs.lines.Breadth.{last_element}
 use Rattle.jsonc_insert.specs.Trimmed.{last_blanks, last_spaces}
 use Rattle.jsonc_insert.specs.declared.plan.Gap.{Gap}
 use Rattle.jsonc_insert.specs.declared.plan.Gap.TheVariants.{Nothing, Space, Line}
-use Rattle.jsonc_insert.specs.declared.plan.Plan.{Plan}
+use Rattle.jsonc_insert.specs.Plans.{Plan}
 
 -- the elements of a row
 abbrev pub elements : List Node → List ℕ → List ℕ
 elements ns row = filter (is_element_at ns) row
-
--- a row through its first element, or all of it
-abbrev pub through_element : List Node → List ℕ → List ℕ
-through_element ns [] = []
-through_element ns (n ∷ row) = n ∷ (if is_element_at ns n then [] else through_element ns row)
 
 -- the element behind which another comes that is to have this number: none for the first, and the last where there are fewer
 abbrev pub element_before : List Node → List ℕ → ℕ → Option ℕ

@@ -4,7 +4,7 @@ ghost use Rattle.std.specs.Prelude.{◌≡◌, ◌<◌, IfErr, IfOk, IsTrue, OnE
 ghost use Rattle.jsonc_tree.specs.Building.{Keeps};
 ghost use Rattle.jsonc_tree.specs.Content.{Content};
 ghost use Rattle.jsonc_tree.specs.OrderedTree.{ordered_tree};
-ghost use Rattle.jsonc_insert.specs.declared.plan.Plan.{Plan};
+ghost use Rattle.jsonc_insert.specs.Plans.{Plan};
 ghost use Rattle.jsonc_text.specs.Plain.{Plain};
 ghost use Rattle.jsonc_tree.specs.Tree.{children_at, content_at, is_container_at};
 ghost use Rattle.jsonc_layout.specs.input.Views.{plain};
@@ -54,7 +54,7 @@ fn read_on_lines<A: Allocator + Copy>(
     let layout = layout_inside(alloc, tree, container)?;
     let outer = outer_indent(alloc, tree, container)?;
     let commas = layout.trailing_commas;
-    let beside = neighbours_of(alloc, tree, container, true, commas, index)?;
+    let beside = neighbours_of(tree, container, true, commas, index);
     Ok(Telling {
         layout,
         outer,
@@ -68,15 +68,15 @@ fn read_on_line<A: Allocator + Copy>(
     tree: &Tree<A>,
     container: usize,
     index: usize,
-) -> Result<Telling<A>, AllocError>
+) -> Telling<A>
     requires in_tree { container < length tree.now.nodes }
     requires brackets { has_brackets tree.now.nodes (children_at tree.now.nodes container) ≡ true }
-    ensures { IfOk result (λ t. (name : Option (List ℕ)) (v : Plain)
+    ensures { (name : Option (List ℕ)) (v : Plain)
         → on_several_lines tree.now.nodes (children_at tree.now.nodes container) name v ≡ false
-        → IsTold tree.now.nodes container index name v (layout_of t.layout) (string_bytes t.outer) t.beside) }
+        → IsTold tree.now.nodes container index name v (layout_of result.layout) (string_bytes result.outer) result.beside }
 {
-    let beside = neighbours_of(alloc, tree, container, false, false, index)?;
-    Ok(Telling {
+    let beside = neighbours_of(tree, container, false, false, index);
+    Telling {
         layout: Layout {
             current: String::new(alloc),
             single: String::new(alloc),
@@ -85,7 +85,7 @@ fn read_on_line<A: Allocator + Copy>(
         },
         outer: String::new(alloc),
         beside,
-    })
+    }
 }
 
 // Reads what the document tells of a value, or a property of a name, that is inserted into a container.
@@ -105,7 +105,7 @@ fn read_beside<A: Allocator + Copy>(
     if on_several_lines(tree, container, name, value) {
         return read_on_lines(alloc, tree, container, index);
     }
-    read_on_line(alloc, tree, container, index)
+    Ok(read_on_line(alloc, tree, container, index))
 }
 
 // Puts what was made after its neighbours. No memory is wanted.
@@ -145,9 +145,9 @@ fn insert_beside<A: Allocator + Copy>(
 {
     let told = read_beside(alloc, tree, container, index, name, value)?;
     let outer = told.outer.as_str();
-    let plan = told.beside.plan;
-    let made = make(alloc, tree, name, value, &told.layout, outer, plan)?;
-    put_beside(tree, container, told.beside, &made.comma, &made.written);
+    let beside = told.beside;
+    let made = make(alloc, tree, name, value, &told.layout, outer, beside)?;
+    put_beside(tree, container, beside, &made.comma, &made.written);
     Ok(made.element)
 }
 

@@ -6,9 +6,11 @@ ghost use Rattle.jsonc_layout.specs.input.Views.{plain};
 ghost use Rattle.jsonc_layout.specs.from_input.Layout.{layout_of};
 ghost use Rattle.jsonc_edit.specs.Put.{Extends};
 ghost use Rattle.jsonc_insert.specs.Inserted.{laid_entry, NodesMade};
+ghost use Rattle.jsonc_insert.specs.Neighbours.{gaps_of};
 ghost use Rattle.jsonc_insert.specs.Made.{comma_leaf, gap_leaves, BuildsTop};
 
-use crate::plan::{Gap, Plan};
+use crate::neighbours::Neighbours;
+use crate::plan::Gap;
 use jsonc_layout::building::Row;
 use jsonc_layout::from_input::{Layout, lay_out, lay_out_property};
 use jsonc_layout::input::CstInputValue;
@@ -93,7 +95,7 @@ fn make_entry<A: Allocator + Copy>(
     }
 }
 
-/// Makes all that is inserted, as a plan says; no node that was there changes.
+/// Makes all that is inserted, as its neighbours tell; no node that was there changes.
 pub(crate) fn make<A: Allocator + Copy>(
     alloc: A,
     tree: &mut Tree<A>,
@@ -101,22 +103,22 @@ pub(crate) fn make<A: Allocator + Copy>(
     value: &CstInputValue<A>,
     layout: &Layout<A>,
     outer: &str,
-    plan: Plan,
+    beside: Neighbours,
 ) -> Result<Made<A>, AllocError>
     ensures made { IfOk result
         (λ m. (before : List ℕ) × (behind : List ℕ) × (m.written.items ≡ before ++ m.element ∷ behind)
-        × NodesMade tree.old.nodes tree.new.nodes (layout_of layout.now) outer.now plan
+        × NodesMade tree.old.nodes tree.new.nodes (layout_of layout.now) outer.now (gaps_of beside)
         (option_map (λ s. chars s.now) name.entry) (plain value.now) m.element m.comma.items before behind) }
     ensures prepared { Extends tree.old.nodes tree.new.nodes }
 {
-    let comma = make_comma(alloc, tree, plan.comma.is_some())?;
+    let comma = make_comma(alloc, tree, beside.comma.is_some())?;
     let mut row = Row::new(alloc);
     let indent = layout.current.as_str();
-    push_gap(tree, &mut row, plan.before, layout.newline, indent)?;
+    push_gap(tree, &mut row, beside.before, layout.newline, indent)?;
     let element = make_entry(alloc, tree, name, value, layout)?;
     row.nodes.push(element)?;
-    push_comma_if(tree, &mut row, plan.comma_behind)?;
-    push_gap(tree, &mut row, plan.behind, layout.newline, outer)?;
+    push_comma_if(tree, &mut row, beside.comma_behind)?;
+    push_gap(tree, &mut row, beside.behind, layout.newline, outer)?;
     Ok(Made {
         comma,
         element,

@@ -133,7 +133,7 @@ fn first_blanks<A: Allocator + Copy>(
 }
 
 // The nearest node before another that is no blank.
-fn solid_before<A: Allocator>(tree: &Tree<A>, node: usize) -> Option<usize>
+pub(crate) fn solid_before<A: Allocator>(tree: &Tree<A>, node: usize) -> Option<usize>
     requires { node < length tree.now.nodes }
     ensures { result ≡ find (is_no_blank_at tree.now.nodes) (siblings_before tree.now.nodes node) }
 {

@@ -2,13 +2,11 @@
 use Rattle.std.proofs.Common.{◌≡◌, ℕ, Bool, true, false, List, Some, OnOk, OnErr, IfErr, Result, Ok, Err, refl, sym, ap, subst, ◌∙◌}
 use Rattle.jsonc_text.specs.Options.{Options}
 use Rattle.jsonc_text.specs.Plain.{Plain}
-use Rattle.jsonc_text.specs.Grammar.{IsDocument}
 use Rattle.jsonc_tree.specs.Content.{Content}
 use Rattle.jsonc_tree.specs.OrderedTree.{OrderedTree, ordered_tree}
 use Rattle.jsonc_tree.specs.Tree.{Node, content_at, IsTree}
 use Rattle.jsonc_tree.specs.Values as values
-use Rattle.jsonc_tree.specs.Values.{ValueOf}
-use Rattle.jsonc_sound.specs.Shape.{printed_text}
+use Rattle.jsonc_tree.specs.Values.{ValueOf, DocumentValueOf}
 use Rattle.jsonc_sound.specs.Adjacent.{last_printed}
 use Rattle.jsonc_sound.specs.Booleans.{boolean_leaf, is_hex_leaf}
 use Rattle.jsonc_sound.specs.Changes.{Changed}
@@ -24,7 +22,7 @@ use Rattle.jsonc_run.specs.Edits.{set_boolean, EditStep}
 use Rattle.jsonc_run.specs.Places.{IsBooleanAt}
 use Rattle.jsonc_run.specs.Refusals.{FailsWith}
 use Rattle.jsonc_insert.specs.named.Values.{ReplacesValue}
-use Rattle.jsonc_insert.proofs.lemmas.named.PathValues.{value_of_text, value_at_path, value_once}
+use Rattle.jsonc_insert.proofs.lemmas.named.PathValues.{value_at_path, value_once}
 
 -- what is answered where one is set
 module _ (ns : List Node) (path : List ℕ) (n : ℕ) (b : Bool) (at : IsBooleanAt ns path n) where
@@ -54,9 +52,9 @@ boolean_value a e (values.array h) = cc
 boolean_value a e (values.object h) = cc
 
 -- so what has been replaced in the document's value is one
-pub boolean_changed : (o : Options) (ns : List Node) (path : List ℕ) (n : ℕ) → IsTree ns → SoundTree o (ordered_tree ns 0) → IsBooleanAt ns path n → {given_up v x y : Plain} → IsDocument o (printed_text (ordered_tree ns 0)) (Some x)
+pub boolean_changed : (o : Options) (ns : List Node) (path : List ℕ) (n : ℕ) → IsTree ns → IsBooleanAt ns path n → {given_up v x y : Plain} → DocumentValueOf o (ordered_tree ns 0) (Some x)
     → Changed given_up v path x y → (was : Bool) × Changed (Plain.boolean was) v path x y
-boolean_changed o ns path n tree s at {v = v} {x = x} {y = y} text changed =
-    let held = value_at_path o ns tree path n at.0 x (value_of_text o (ordered_tree ns 0) s x text) in
+boolean_changed o ns path n tree at {v = v} {x = x} {y = y} value changed =
+    let held = value_at_path o ns tree path n at.0 x value in
     let kind = boolean_of (content_at ns n) at.1 in
     (kind.0, subst (λ w. Changed w v path x y) (value_once changed held.at ∙ boolean_value kind.0 kind.1 held.has) changed)

@@ -4,23 +4,22 @@ use Rattle.std.proofs.lemmas.Bool.{cases_Bool}
 use Rattle.std.specs.List.{find}
 use Rattle.jsonc_text.specs.Options.{Options}
 use Rattle.jsonc_text.specs.Plain.{Plain}
-use Rattle.jsonc_text.specs.Grammar.{IsDocument}
 use Rattle.jsonc_tree.specs.Content.{root}
 use Rattle.jsonc_tree.specs.OrderedTree.{OrderedTree, none, more, Shows, shows_none, shows_more, ordered_tree}
 use Rattle.jsonc_tree.specs.Tree.{Node, content_at, children_at, IsTree}
 use Rattle.jsonc_tree.specs.Values as values
 use Rattle.jsonc_tree.specs.Values.{HasNoValue, HoldsValue, ValueOf, DocumentValueOf}
-use Rattle.jsonc_sound.specs.Shape.{printed_text}
-use Rattle.jsonc_sound.proofs.ShapeValues.{document_printed}
 use Rattle.jsonc_layout.specs.nodes.Kinds.{is_element_at}
 use Rattle.jsonc_layout.specs.nodes.Properties.{value_at, value_by}
 use Rattle.jsonc_sound.proofs.FirstNodes.{value_of_element}
 use Rattle.jsonc_sound.specs.SoundTrees.{SoundTree}
+use Rattle.jsonc_sound.specs.Edited.{Says}
 use Rattle.jsonc_edit.specs.Changes.{row_below}
 use Rattle.jsonc_edit.specs.Reading.{IsReplaced}
 use Rattle.jsonc_edit.proofs.Elements.{Some_same}
 use Rattle.jsonc_edit.proofs.FittingFinds.{passes, fails, none_is_some}
 use Rattle.jsonc_edit.proofs.ChangesUpward.{Shows-row_below}
+use Rattle.jsonc_edit.proofs.SoundValues.{says}
 use Rattle.jsonc_edit.specs.set.Kinds.{FoundOrCreated, FoundOrSet, KeptOrReplaced}
 use Rattle.jsonc_edit.specs.set.RootSet.{FirstValue}
 use Rattle.jsonc_text.specs.declared.edit.Over.{Over}
@@ -50,10 +49,10 @@ module _ (o : Options) (ns : List Node) where
   no_first n _ _ shows_none h e = none_is_some n e
   no_first n _ _ (shows_more {n = k} {rest = rest} {after = after} p q) (values.pass h g) e = no_first n rest after q g (sym (fails (is_element_at ns) k rest (ap not h)) ∙ e)
 
--- the text of a sound document has a value, if its root has one, and the root's has its shape
+-- a sound document has a value, if its root has one, and the root's has its shape
 pub record Held (o : Options) (ns : List Node) (n : ℕ) : Type 0 where
   pub value : Plain
-  pub text : IsDocument o (printed_text (ordered_tree ns 0)) (Some value)
+  pub says : Says o (ordered_tree ns 0) (Some value)
   pub error : (shape : Shape) → is_of shape (content_at ns n) ≡ has_shape shape value
 
 module _ (o : Options) (ns : List Node) (tree : IsTree ns) (sound : SoundTree o (ordered_tree ns 0)) (n : ℕ) (e : value_at ns 0 ≡ Some n) where
@@ -68,14 +67,14 @@ module _ (o : Options) (ns : List Node) (tree : IsTree ns) (sound : SoundTree o 
       let both : more root below none ≡ more root (row_below ns 0) none = sym same ∙ root_is ns tree in
       cc
 
-  from_printed : (w : Option Plain) × IsDocument o (printed_text (ordered_tree ns 0)) w × DocumentValueOf o (ordered_tree ns 0) w → Held o ns n
-  from_printed (None, text, (below, same, h)) = absurd (no_first o ns n (children_at ns 0) (row_below ns 0) shown (subst HasNoValue (same_row below same) h) found)
-  from_printed (Some x, text, (below, same, h)) =
-      let it = first_value o ns n x (children_at ns 0) (row_below ns 0) shown (subst (λ t. HoldsValue o t x) (same_row below same) h) found in
-      record { value = x; text = text; error = λ shape. same_shape shape it.1 }
-
   pub held : Held o ns n
-  held = from_printed (document_printed o (ordered_tree ns 0) sound.shaped sound.lines)
+  held = let w = says o (ordered_tree ns 0) sound in by w.0 w.1 w.1.value
+    where
+      by : (w : Option Plain) → Says o (ordered_tree ns 0) w → DocumentValueOf o (ordered_tree ns 0) w → Held o ns n
+      by None is (below, same, h) = absurd (no_first o ns n (children_at ns 0) (row_below ns 0) shown (subst HasNoValue (same_row below same) h) found)
+      by (Some x) is (below, same, h) =
+          let it = first_value o ns n x (children_at ns 0) (row_below ns 0) shown (subst (λ t. HoldsValue o t x) (same_row below same) h) found in
+          record { value = x; says = is; error = λ shape. same_shape shape it.1 }
 
 -- what was made of the document's value
 pub data Ensured (old new : List Node) (shape : Shape) : Over → Type 0 where

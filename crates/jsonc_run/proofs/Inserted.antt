@@ -2,14 +2,13 @@
 use Rattle.std.proofs.Common.{◌≡◌, ℕ, ◌≤◌, ◌+◌, true, List, length, Some, refl, ap, subst, arith}
 use Rattle.jsonc_text.specs.Options.{Options}
 use Rattle.jsonc_text.specs.Plain.{Plain, array}
-use Rattle.jsonc_text.proofs.UniqueValues.{document_unique}
 use Rattle.jsonc_tree.specs.OrderedTree.{OrderedTree, ordered_tree}
 use Rattle.jsonc_tree.specs.Tree.{Node, children_at, IsTree}
-use Rattle.jsonc_sound.specs.Shape.{printed_text}
 use Rattle.jsonc_layout.specs.nodes.Siblings.{elements_at}
 use Rattle.jsonc_sound.specs.Changes.{Changed}
 use Rattle.jsonc_sound.specs.SoundTrees.{SoundTree}
 use Rattle.jsonc_edit.specs.Writing.{IsWritable}
+use Rattle.jsonc_edit.proofs.OneValue.{document_once}
 use Rattle.jsonc_text.specs.declared.edit.EditError.TheVariants.{NoSuchPlace}
 use Rattle.jsonc_insert.specs.Inserted.{refusal, ElementPut}
 use Rattle.jsonc_insert.specs.Planned.{has_brackets}
@@ -40,7 +39,7 @@ pub record CameIn (o : Options) (path : List ℕ) (i : ℕ) (v : Plain) (t u : O
 pub record CameLast (o : Options) (path : List ℕ) (v : Plain) (t u : OrderedTree) : Type 0 where
   pub i : ℕ
   pub came : CameIn o path i v t u
-  pub far : item_count came.is.gains.old ≤ i
+  pub far : item_count came.is.value.old ≤ i
 
 module _ (o : Options) (old new : List Node) (path : List ℕ) (n m : ℕ) (v : Plain) (tree : IsTree old) (sound : SoundTree o (ordered_tree old 0)) (at : IsArrayAt old path n) (may : IsWritable o v) where
   pub came_in : (i : ℕ) → ElementPut old new n i v m → CameIn o path i v (ordered_tree old 0) (ordered_tree new 0)
@@ -52,10 +51,10 @@ module _ (o : Options) (old new : List Node) (path : List ℕ) (n m : ℕ) (v : 
   came_last put =
       let len : ℕ = length (elements_at old n) in
       let first = came_in len put in
-      let k : ℕ = item_count first.is.gains.old in
+      let k : ℕ = item_count first.is.value.old in
       let brackets = has_its_brackets o old path n tree sound at.0 at.1 in
       let came = came_in (len + k) (past_the_end old new n len (len + k) v m brackets (omega arith) (omega arith) put) in
-      let before : first.is.before ≡ came.is.before = let e : Some first.is.before ≡ Some came.is.before = document_unique o (printed_text (ordered_tree old 0)) (Some first.is.before) (Some came.is.before) first.is.old_text came.is.old_text in cc in
-      let items : array first.is.gains.old ≡ array came.is.gains.old = value_once (subst (λ z. Changed (array first.is.gains.old) (array first.is.gains.new) path z first.is.after) before first.is.gains.changed) came.is.gains.changed in
-      let same : first.is.gains.old ≡ came.is.gains.old = cc in
+      let before : first.is.before ≡ came.is.before = let e : Some first.is.before ≡ Some came.is.before = document_once o (ordered_tree old 0) (Some first.is.before) (Some came.is.before) first.is.old.value came.is.old.value in cc in
+      let items : array first.is.value.old ≡ array came.is.value.old = value_once (subst (λ z. Changed (array first.is.value.old) (array first.is.value.new) path z first.is.after) before first.is.value.changed) came.is.value.changed in
+      let same : first.is.value.old ≡ came.is.value.old = cc in
       record { i = len + k; came = came; far = omega (arith, ap item_count same) }

@@ -2,10 +2,8 @@
 use Rattle.std.proofs.Common.{◌≡◌, ℕ, ◌≤◌, ◌<◌, ◌+◌, true, List, length, Some, ap, subst, arith}
 use Rattle.jsonc_text.specs.Options.{Options}
 use Rattle.jsonc_text.specs.Plain.{Plain, object}
-use Rattle.jsonc_text.proofs.UniqueValues.{document_unique}
 use Rattle.jsonc_tree.specs.OrderedTree.{OrderedTree, ordered_tree}
 use Rattle.jsonc_tree.specs.Tree.{Node, children_at, IsTree}
-use Rattle.jsonc_sound.specs.Shape.{printed_text}
 use Rattle.jsonc_layout.specs.nodes.Siblings.{elements_at}
 use Rattle.jsonc_layout.specs.from_input.Texts.{IsCharacters}
 use Rattle.jsonc_sound.specs.Changes.{Changed}
@@ -25,6 +23,7 @@ use Rattle.jsonc_text.specs.declared.edit.Over.{Over}
 use Rattle.jsonc_text.specs.declared.edit.Over.TheVariants as over
 use Rattle.jsonc_text.specs.declared.edit.Shape.{Shape}
 use Rattle.jsonc_edit.proofs.Uniqueness.{over_at}
+use Rattle.jsonc_edit.proofs.OneValue.{document_once}
 use Rattle.jsonc_insert.specs.named.Named.{EnsureError}
 use Rattle.jsonc_run.specs.Places.{IsObjectAt}
 use Rattle.jsonc_insert.proofs.lemmas.named.PathValues.{value_once}
@@ -51,7 +50,7 @@ pub record CameIn (o : Options) (path : List ℕ) (i : ℕ) (name : List ℕ) (v
 pub record CameLast (o : Options) (path : List ℕ) (name : List ℕ) (v : Plain) (t u : OrderedTree) : Type 0 where
   pub i : ℕ
   pub came : CameIn o path i name v t u
-  pub far : member_count came.is.gains.old ≤ i
+  pub far : member_count came.is.value.old ≤ i
 
 module _ (o : Options) (old new : List Node) (path : List ℕ) (n m : ℕ) (name : List ℕ) (v : Plain) (tree : IsTree old) (sound : SoundTree o (ordered_tree old 0)) (at : IsObjectAt old path n) where
   -- behind all properties all greater numbers do the same
@@ -69,9 +68,9 @@ module _ (o : Options) (old new : List Node) (path : List ℕ) (n m : ℕ) (name
     came_last put =
         let len : ℕ = length (elements_at old n) in
         let first = came_in len put in
-        let k : ℕ = member_count first.is.gains.old in
+        let k : ℕ = member_count first.is.value.old in
         let came = came_in (len + k) (behind_all len (len + k) (omega arith) (omega arith) put) in
-        let before : first.is.before ≡ came.is.before = let e : Some first.is.before ≡ Some came.is.before = document_unique o (printed_text (ordered_tree old 0)) (Some first.is.before) (Some came.is.before) first.is.old_text came.is.old_text in cc in
-        let members : object first.is.gains.old ≡ object came.is.gains.old = value_once (subst (λ z. Changed (object first.is.gains.old) (object first.is.gains.new) path z first.is.after) before first.is.gains.changed) came.is.gains.changed in
-        let same : first.is.gains.old ≡ came.is.gains.old = cc in
+        let before : first.is.before ≡ came.is.before = let e : Some first.is.before ≡ Some came.is.before = document_once o (ordered_tree old 0) (Some first.is.before) (Some came.is.before) first.is.old.value came.is.old.value in cc in
+        let members : object first.is.value.old ≡ object came.is.value.old = value_once (subst (λ z. Changed (object first.is.value.old) (object first.is.value.new) path z first.is.after) before first.is.value.changed) came.is.value.changed in
+        let same : first.is.value.old ≡ came.is.value.old = cc in
         record { i = len + k; came = came; far = omega (arith, ap member_count same) }

@@ -4,13 +4,8 @@ use Rattle.std.specs.List.{All}
 use Rattle.std.proofs.lemmas.List.Elements.{All-head, All-tail}
 use Rattle.jsonc_text.specs.Options.{Options}
 use Rattle.jsonc_text.specs.Plain.{Plain}
-use Rattle.jsonc_text.proofs.UniqueValues.{document_unique}
 use Rattle.jsonc_tree.specs.OrderedTree.{OrderedTree, ordered_tree}
 use Rattle.jsonc_tree.specs.Tree.{Node, IsTree}
-use Rattle.jsonc_sound.specs.Shape.{printed_text}
-use Rattle.jsonc_sound.proofs.ShapeValues.{document_printed}
-use Rattle.jsonc_sound.specs.SoundTrees.{SoundTree}
-use Rattle.jsonc_sound.proofs.Printed.{prints_its_marks}
 use Rattle.jsonc_layout.specs.input.Views.{chars_of}
 use Rattle.jsonc_layout.specs.from_input.Texts.{IsCharacters}
 use Rattle.jsonc_layout.proofs.lemmas.from_input.Texts.{of_texts}
@@ -20,13 +15,16 @@ use Rattle.std.specs.declared.string.String.{String}
 use Rattle.jsonc_run.specs.declared.edit.Edit.{Edit}
 use Rattle.jsonc_run.specs.declared.edit.Edit.TheVariants.{Sort}
 use Rattle.jsonc_run.specs.Edits.{Sorting, operation_of, PlainEdit, place_of, EditSteps, none_made, first_made, EditStep, MakesAt, Fits, Allows, IsOfCharacters}
-use Rattle.jsonc_run.specs.Steps.{Says, Step, Steps, no_step, one_step, MakesSteps}
+use Rattle.jsonc_run.specs.Steps.{Step, Steps, no_step, one_step, MakesSteps}
 use Rattle.jsonc_run.specs.Named.{Asks, comment_count, IsNamed}
 use Rattle.jsonc_run.specs.Written.{IsChanged}
 use Rattle.jsonc_run.specs.texts.Edits.{Operation, options_behind}
 use Rattle.jsonc_run.proofs.NamedPlaces.{at_found, places_named}
 use Rattle.jsonc_run.proofs.Wider.{fits_behind}
 use Rattle.jsonc_run.proofs.Written.{edit_made}
+use Rattle.jsonc_sound.specs.Edited.{Says}
+use Rattle.jsonc_edit.proofs.SoundValues.{says}
+use Rattle.jsonc_edit.proofs.OneValue.{document_once}
 
 module _ {A : Type 0} where
   name_of_characters : (s : String A) → IsCharacters (chars_of s)
@@ -44,12 +42,6 @@ module _ {A : Type 0} where
   fits_alike o s (Sort path pin groups) h = h
   fits_alike o s e h = h
 
--- what a sound tree says
-pub says : (o : Options) (t : OrderedTree) → SoundTree o t → (w : Option Plain) × Says o t w
-says o t s =
-    let p = document_printed o t s.shaped s.lines in
-    (p.0, record { sound = s; value = p.2; text = p.1; marks = prints_its_marks o t s })
-
 -- one edit is one step, of the operation that it asks for
 record OneStep (o : Options) (t : OrderedTree) (w : Option Plain) (e : PlainEdit) (u : OrderedTree) : Type 0 where
   op : Operation
@@ -61,21 +53,19 @@ record OneStep (o : Options) (t : OrderedTree) (w : Option Plain) (e : PlainEdit
 step_made : (o : Options) (old new : List Node) (w : Option Plain) (e : PlainEdit) → IsTree old → IsTree new → Says o (ordered_tree old 0) w → IsOfCharacters e → Allows o e → EditStep old e new → OneStep o (ordered_tree old 0) w e (ordered_tree new 0)
 step_made o old new w e tree after was characters numbers made =
     let m = edit_made o old new tree after was.sound e characters numbers made in
-    let now = says (options_behind o m.op) (ordered_tree new 0) m.is.sound in
-    let first : m.before ≡ w = document_unique o (printed_text (ordered_tree old 0)) m.before w m.is.old_text was.text in
+    let first : m.is.before ≡ w = document_once o (ordered_tree old 0) m.is.before w m.is.old.value was.value in
     let named : IsNamed w (comment_count (ordered_tree old 0)) e = (places_named o old e tree was.sound w was.value).0 (at_found old (place_of e) (λ n. MakesAt old n e new) made) in
-    let second : m.is.after ≡ now.0 = document_unique (options_behind o m.op) (printed_text (ordered_tree new 0)) m.is.after now.0 m.is.new_text now.1.text in
     record {
       op = m.op;
-      value = now.0;
+      value = m.is.after;
       named = named;
       asks = subst (λ (x : Option Plain). IsNamed x (comment_count (ordered_tree old 0)) e → Asks x e m.op) first (m.asks (comment_count (ordered_tree old 0))) named;
       step = record {
         old = was;
-        new = now.1;
-        changed = subst (λ x. IsChanged w m.op x) second (subst (λ x. IsChanged x m.op m.is.after) first m.is.changed);
-        marked = m.is.marked;
-        made = m.is.made;
+        new = m.is.new;
+        changed = subst (λ x. IsChanged x m.op m.is.after) first m.is.value;
+        marked = m.is.marks;
+        made = m.made;
       };
     }
 

@@ -3,27 +3,24 @@ use Rattle.std.proofs.Common.{◌≡◌, ℕ, length, Bool, true, false, List, [
 use Rattle.jsonc_layout.specs.nodes.Siblings.{elements_at}
 use Rattle.jsonc_text.specs.Options.{Options}
 use Rattle.jsonc_text.specs.Plain.{Plain, Items, Members}
-use Rattle.jsonc_text.specs.Grammar.{IsDocument}
-use Rattle.jsonc_text.proofs.UniqueValues.{document_unique}
-use Rattle.jsonc_tree.specs.OrderedTree.{OrderedTree, Top, none, leaves, ordered_tree}
+use Rattle.jsonc_tree.specs.OrderedTree.{OrderedTree, Top, leaves, ordered_tree}
 use Rattle.jsonc_tree.specs.Tree.{Node, content_at, children_at, parent_at, IsTree, IsOver}
+use Rattle.jsonc_tree.specs.Values.{DocumentValueOf}
 use Rattle.jsonc_tree.proofs.Order.{over_step}
 use Rattle.jsonc_edit.proofs.Uniqueness.{over_at}
 use Rattle.jsonc_run.proofs.lemmas.promise.BlanksTold.{layout_told}
-use Rattle.jsonc_sound.specs.Shape.{printed_text}
 use Rattle.jsonc_sound.specs.SoundTrees.{SoundTree}
 use Rattle.jsonc_sound.specs.Changes as changes
 use Rattle.jsonc_sound.specs.Changes.{Changed, ItemChanged, MemberChanged}
 use Rattle.jsonc_sound.specs.TreeChanges.{property_of}
 use Rattle.jsonc_sound.specs.MarkChanges.{MarksDifferIn, marks_under}
-use Rattle.jsonc_sound.specs.Marks.{comments_of, marks, trimmed}
+use Rattle.jsonc_sound.specs.Marks.{comments_of, marks, trimmed, comment_mark, Mark}
 use Rattle.jsonc_sound.specs.Written.{property_written, written}
 use Rattle.jsonc_sound.specs.EntryLaws.{root_with}
-use Rattle.jsonc_sound.proofs.ShapeValues.{document_printed}
+use Rattle.jsonc_sound.specs.Edited.{IsEdited, Says}
 use Rattle.jsonc_sound.proofs.ReplacedStretches.{one_mark_leaves}
 use Rattle.jsonc_sound.proofs.Laid.{laid_as_written, laid_as_written_named}
 use Rattle.jsonc_sound.proofs.FirstValue.{marks_with_first}
-use Rattle.jsonc_sound.proofs.RootRows.{root_marks}
 use Rattle.jsonc_layout.specs.from_input.Laid.{laid, laid_property}
 use Rattle.jsonc_layout.specs.from_input.Texts.{IsCharacters}
 use Rattle.jsonc_layout.specs.lines.Kinds.{is_array_or_object}
@@ -60,14 +57,14 @@ use Rattle.jsonc_edit.proofs.lemmas.remove.RemovedValue.{removes_value}
 use Rattle.jsonc_edit.proofs.lemmas.remove.Roots.{value_taken}
 use Rattle.jsonc_edit.proofs.lemmas.set.FirstValueRows.{comes_among_rows}
 use Rattle.jsonc_edit.proofs.lemmas.set.FirstValueSet.{gives_first_value, leaves_bare}
-use Rattle.jsonc_edit.proofs.lemmas.set.RenamedProperty.{is_marked, writes_name}
+use Rattle.jsonc_edit.proofs.lemmas.set.RenamedProperty.{writes_name}
 use Rattle.jsonc_edit.proofs.lemmas.set.WrittenBoolean.{writes_boolean}
 use Rattle.jsonc_edit.proofs.lemmas.set.WrittenProperty.{writes_property}
-use Rattle.jsonc_edit.proofs.SoundValues.{some_value_of, prints_value}
+use Rattle.jsonc_edit.proofs.SoundValues.{value_kept, says, some_says}
 use Rattle.jsonc_insert.specs.named.Members.{LacksMember}
 use Rattle.jsonc_insert.specs.named.Named.{EnsuredFor}
 use Rattle.jsonc_insert.specs.named.Places.{IsPropertyAt, a_property}
-use Rattle.jsonc_insert.proofs.lemmas.named.PathValues.{gives_way_to_itself, value_at_path, value_of_text, value_once}
+use Rattle.jsonc_insert.proofs.lemmas.named.PathValues.{gives_way_to_itself, value_at_path, value_once}
 use Rattle.jsonc_insert.proofs.lemmas.named.PropertyValues.{value_held}
 use Rattle.jsonc_insert.proofs.lemmas.named.Values as property_values
 use Rattle.jsonc_insert.proofs.lemmas.named.Values.{empty_writable, layout_given, marks_given, same_shape, value_gives_way, value_marked}
@@ -83,7 +80,6 @@ use Rattle.jsonc_run.specs.texts.Paths.{an_array, an_object}
 use Rattle.jsonc_run.proofs.Booleans.{boolean_given, boolean_changed}
 use Rattle.jsonc_run.proofs.EnsuredValues.{kept_or_emptied, held, Ensured, created, stayed, other_stayed, replaced, ensured}
 use Rattle.jsonc_run.proofs.Inserted as elements
-use Rattle.jsonc_run.proofs.Calls.{property_over}
 use Rattle.jsonc_run.proofs.CommentMade.{comment_inserted}
 use Rattle.jsonc_text.specs.declared.edit.Place.TheVariants.{Above, After}
 use Rattle.jsonc_run.proofs.lemmas.promise.BlanksEntries.{element_brings_none, property_brings_none}
@@ -120,22 +116,20 @@ left_so changes.itself = changes.itself
 left_so (changes.in_array k c) = changes.in_array (item_left k) (left_so c)
 left_so (changes.in_object k c) = changes.in_object (member_left k) (left_so c)
 
--- What the operation has made of a sound document of this value: what the value is then, and the marks; and that it was made at its place.
-pub record IsMade (o : Options) (before : Option Plain) (op : Operation) (t u : OrderedTree) : Type 0 where
-  pub after : Option Plain
-  pub old_text : IsDocument o (printed_text t) before
-  pub new_text : IsDocument (options_behind o op) (printed_text u) after
-  pub changed : IsChanged before op after
-  pub sound : SoundTree (options_behind o op) u
-  pub marked : IsMarked (marks t) op (marks u)
-  pub made : MadeIn o t op u
-
--- it is what the edit asks for, where it has its place
+-- One edit: the operation that it asks for, where it has its place, what this makes of the document's value and marks, and that it was made at its place.
 pub record EditMade (o : Options) (e : PlainEdit) (t u : OrderedTree) : Type 0 where
-  pub before : Option Plain
   pub op : Operation
-  pub asks : (count : ℕ) → IsNamed before count e → Asks before e op
-  pub is : IsMade o before op t u
+  pub is : IsEdited o (options_behind o op) (λ w. w) (λ w. w) (λ w x. IsChanged w op x) (λ x y. IsMarked x op y) t u
+  pub made : MadeIn o t op u
+  pub asks : (count : ℕ) → IsNamed is.before count e → Asks is.before e op
+
+-- it is what an edit of nodes makes of the document
+made_so : {o : Options} {e : PlainEdit} {t u : OrderedTree} (op : Operation) {A B : Type 0} {a : A → Option Plain} {b : B → Option Plain} {V : A → B → Type 0} {M : List Mark → List Mark → Type 0} (m : IsEdited o (options_behind o op) a b V M t u)
+    → IsChanged (a m.before) op (b m.after) → IsMarked (marks t) op (marks u) → MadeIn o t op u → ((count : ℕ) → IsNamed (a m.before) count e → Asks (a m.before) e op) → EditMade o e t u
+made_so op {a = a} {b = b} m changed marked made asks = record { op = op; is = record { before = a m.before; after = b m.after; old = m.old; new = m.new; value = changed; marks = marked }; made = made; asks = asks }
+
+unchanged : {op : Operation} {w x : Option Plain} → IsChanged w op w → x ≡ w → IsChanged w op x
+unchanged {op} {w} c same = subst (IsChanged w op) (sym same) c
 
 -- a first value's marks come in
 first_marked : (o : Options) (t u : OrderedTree) (v : Plain) → IsWritable o v → FirstComes v t u → MarksDifferIn [] (written v) (marks t) (marks u)
@@ -151,22 +145,8 @@ property_marked o t u _ name v characters may (property_given path i layout spac
 
 -- an entry, or the document's value, has left
 entry_made : (o : Options) (t u : OrderedTree) (path : List ℕ) → SoundTree o t → EntryRemoved t u path → EditMade o (remove path) t u
-entry_made o t u _ s (entry_left path i top taken) =
-    let w = removes_entry o t u path i top s taken in
-    record {
-      before = Some w.before;
-      op = texts.remove (path ++ i ∷ []);
-      asks = λ count at. (at, refl);
-      is = record { after = Some w.after; old_text = w.old_text; new_text = w.new_text; changed = by_entry path i w.loses; sound = w.sound; marked = (top, w.marks); made = entry_left path i top taken };
-    }
-entry_made o t u _ s (value_left top taken) =
-    let w = removes_value o t u top s taken in
-    record {
-      before = Some w.before;
-      op = texts.remove [];
-      asks = λ count at. (at, refl);
-      is = record { after = None; old_text = w.old_text; new_text = w.new_text; changed = by_all; sound = w.sound; marked = (top, w.marks); made = value_left top taken };
-    }
+entry_made o t u _ s (entry_left path i top taken) = let w = removes_entry o t u path i top s taken in made_so (texts.remove (path ++ i ∷ [])) w (by_entry path i w.value) (top, w.marks) (entry_left path i top taken) (λ count at. (at, refl))
+entry_made o t u _ s (value_left top taken) = let w = removes_value o t u top s taken in made_so (texts.remove []) w by_all (top, w.marks) (value_left top taken) (λ count at. (at, refl))
 
 -- a value that is to stay does, and one that is not where it is of the shape
 keeps : (shape : Shape) (v : Plain) → may_stay shape over.Keep v ≡ true
@@ -207,89 +187,77 @@ module _ (o : Options) (old new : List Node) (tree : IsTree old) (after : IsTree
     stands : StandsAt v path (Some w)
     of_shape : (shape : Shape) → is_of shape (content_at old n) ≡ has_shape shape v
 
-  value_there : (path : List ℕ) (n : ℕ) → IsAt old path n → (w : Plain) → IsDocument o (printed_text t) (Some w) → ValueThere path n w
-  value_there path n at w text =
-      let there = value_at_path o old tree path n at w (value_of_text o t s w text) in
+  value_there : (path : List ℕ) (n : ℕ) → IsAt old path n → (w : Plain) → DocumentValueOf o t (Some w) → ValueThere path n w
+  value_there path n at w value =
+      let there = value_at_path o old tree path n at w value in
       record { v = there.value; stands = changed there.at; of_shape = λ shape. same_shape shape there.has }
 
   -- nothing is done
-  none_made : (w : Option Plain) → IsDocument o (printed_text t) w → new ≡ old → IsMade o w texts.nothing t u
-  none_made w text same =
-      subst (λ (ns : List Node). IsMade o w texts.nothing t (ordered_tree ns 0)) (sym same)
-      (record { after = w; old_text = text; new_text = text; changed = by_nothing; sound = s; marked = refl; made = refl })
+  none_made : {e : PlainEdit} (w : Option Plain) → Says o t w → new ≡ old → ((count : ℕ) → IsNamed w count e → Asks w e texts.nothing) → EditMade o e t u
+  none_made {e} w is same asks =
+      subst (λ (ns : List Node). EditMade o e t (ordered_tree ns 0)) (sym same)
+      (record { op = texts.nothing; is = record { before = w; after = w; old = is; new = is; value = by_nothing; marks = refl }; made = refl; asks = asks })
 
   -- what an entry of the document stands in is in it
   holder_over : (path : List ℕ) (n c : ℕ) → IsAt old path n → parent_at old n ≡ Some c → IsOver old 0 c
   holder_over path n c at said = over_step old tree 0 n c (over_at old tree path n at) (λ e. let wrong : None ≡ Some c = sym tree.root_alone ∙ subst (λ m. parent_at old m ≡ Some c) e said in cc) said
 
   -- a value is replaced
-  replaced_made : (path : List ℕ) (n m : ℕ) (v : Plain) → IsAt old path n → IsWritable o v → IsReplaced old new n v m → (w : Plain) × IsMade o (Some w) (texts.replace path v) t u
-  replaced_made path n m v at may r =
-      let w = replaced_written o old new n m v tree r path s at may in
+  replaced_made : {e : PlainEdit} (path : List ℕ) (n m : ℕ) (v : Plain) → IsAt old path n → IsWritable o v → IsReplaced old new n v m
+      → ((w : Plain) → DocumentValueOf o t (Some w) → (count : ℕ) → IsNamed (Some w) count e → Asks (Some w) e (texts.replace path v)) → EditMade o e t u
+  replaced_made path n m v at may r asks =
+      let w = (replaced_written o old new n m v tree r path s at may).is in
       let g = value_gives_way old new path n m v tree at r in
-      (w.before, record { after = Some w.after; old_text = w.old_text; new_text = w.new_text; changed = by_value w.changed; sound = w.sound; marked = value_marked o t u path v may g; made = (g, subst (IsTold t) (sym (layout_given old new path n m v tree at r)) (layout_told o old tree s r.0 n (holder_over path n r.0 at r.1))) })
+      made_so (texts.replace path v) w (by_value w.value.1) (value_marked o t u path v may g) (g, subst (IsTold t) (sym (layout_given old new path n m v tree at r)) (layout_told o old tree s r.0 n (holder_over path n r.0 at r.1))) (asks w.before w.old.value)
 
   -- a value comes where there was none
-  first_made : (m : ℕ) (v : Plain) → value_at old 0 ≡ None → IsWritable o v → FirstValue old new v m → IsMade o None (texts.come_first v) t u
-  first_made m v e may f =
+  first_made : {e : PlainEdit} (m : ℕ) (v : Plain) → value_at old 0 ≡ None → IsWritable o v → FirstValue old new v m → ((count : ℕ) → IsNamed None count e → Asks None e (texts.come_first v)) → EditMade o e t u
+  first_made m v e may f asks =
       let w = gives_first_value o old new v m tree s e may f in
       let comes : FirstComes v t u = (layout_for old 0 0, row_below old 0, row_below new 0, root_is old tree, root_is new f.tree, comes_among_rows o old new v m tree s e f) in
-      record { after = Some v; old_text = w.before.text; new_text = w.after.text; changed = by_first; sound = w.after.sound; marked = first_marked o t u v may comes; made = (comes, first_brings_none o old new v m tree s w.after.sound may.texts e f) }
+      made_so (texts.come_first v) w by_first (first_marked o t u v may comes) (comes, first_brings_none o old new v m tree s w.new.sound may.texts e f) asks
 
   -- an element or a property comes in
-  element_made : (path : List ℕ) (i : ℕ) (v : Plain) (came : elements.CameIn o path i v t u) → PrintsNoBlank (texts.insert an_array path i (entry [] v)) t u → IsMade o (Some came.is.before) (texts.insert an_array path i (entry [] v)) t u
-  element_made path i v came quiet =
-      let w = came.is in
-      record { after = Some w.after; old_text = w.old_text; new_text = w.new_text; changed = by_inserting w.gains; sound = w.sound; marked = marks_come_in (written v) _ _ t u w.marks; made = (came.come, quiet) }
+  element_made : {e : PlainEdit} (path : List ℕ) (i : ℕ) (v : Plain) (came : elements.CameIn o path i v t u) → PrintsNoBlank (texts.insert an_array path i (entry [] v)) t u
+      → ((count : ℕ) → IsNamed (Some came.is.before) count e → Asks (Some came.is.before) e (texts.insert an_array path i (entry [] v))) → EditMade o e t u
+  element_made path i v came quiet asks = made_so (texts.insert an_array path i (entry [] v)) came.is (by_inserting came.is.value) (marks_come_in (written v) _ _ (marks t) (marks u) came.is.marks) (came.come, quiet) asks
 
-  property_made : (path : List ℕ) (i : ℕ) (name : List ℕ) (v : Plain) (came : properties.CameIn o path i name v t u) → PrintsNoBlank (texts.insert an_object path i (entry name v)) t u → IsMade o (Some came.is.before) (texts.insert an_object path i (entry name v)) t u
-  property_made path i name v came quiet =
-      let w = came.is in
-      record { after = Some w.after; old_text = w.old_text; new_text = w.new_text; changed = by_inserting_member w.gains; sound = w.sound; marked = marks_come_in (property_written name v) _ _ t u w.marks; made = (came.come, quiet) }
+  property_made : {e : PlainEdit} (path : List ℕ) (i : ℕ) (name : List ℕ) (v : Plain) (came : properties.CameIn o path i name v t u) → PrintsNoBlank (texts.insert an_object path i (entry name v)) t u
+      → ((count : ℕ) → IsNamed (Some came.is.before) count e → Asks (Some came.is.before) e (texts.insert an_object path i (entry name v))) → EditMade o e t u
+  property_made path i name v came quiet asks =
+      made_so (texts.insert an_object path i (entry name v)) came.is (by_inserting_member came.is.value) (marks_come_in (property_written name v) _ _ (marks t) (marks u) came.is.marks) (came.come, quiet) asks
 
   -- the document's value is set, or has to be of a shape
   root_set : (v : Plain) → IsWritable o v → (found : Option ℕ) → value_at old 0 ≡ found → RootSet old new v found → EditMade o (set_root v) t u
-  root_set v may None e (m, f) = record { before = None; op = texts.come_first v; asks = λ count at. refl; is = first_made m v e may f }
-  root_set v may (Some n) e (m, r) =
-      let g = replaced_made [] n m v (value_stands old tree n e) may r in
-      record { before = Some g.0; op = texts.replace [] v; asks = λ count at. refl; is = g.1 }
+  root_set v may None e (m, f) = first_made m v e may f (λ count at. refl)
+  root_set v may (Some n) e (m, r) = replaced_made [] n m v (value_stands old tree n e) may r (λ w has count at. refl)
 
   root_ensured : (shape : Shape) (how : Over) → Ensured old new shape how → EditMade o (ensure_root shape how) t u
-  root_ensured shape how (created m e f) = record { before = None; op = texts.come_first (empty_of shape); asks = λ count at. refl; is = first_made m (empty_of shape) e (empty_writable o shape) f }
+  root_ensured shape how (created m e f) = first_made m (empty_of shape) e (empty_writable o shape) f (λ count at. refl)
   root_ensured shape how (stayed n e is same) =
       let h = held o old tree s n e in
-      record { before = Some h.value; op = texts.nothing; asks = λ count at. ap (kept_or_emptied shape []) (sym (stays_if shape how h.value (sym (h.error shape) ∙ is))); is = none_made (Some h.value) h.text same }
+      none_made (Some h.value) h.says same (λ count at. ap (kept_or_emptied shape []) (sym (stays_if shape how h.value (sym (h.error shape) ∙ is))))
   root_ensured shape _ (other_stayed n e is same) =
       let h = held o old tree s n e in
-      record { before = Some h.value; op = texts.nothing; asks = λ count at. ap (kept_or_emptied shape []) (sym (keeps shape h.value)); is = none_made (Some h.value) h.text same }
+      none_made (Some h.value) h.says same (λ count at. ap (kept_or_emptied shape []) (sym (keeps shape h.value)))
   root_ensured shape _ (replaced n m e is r) =
       let h = held o old tree s n e in
-      let g = replaced_made [] n m (empty_of shape) (value_stands old tree n e) (empty_writable o shape) r in
-      let both : Some h.value ≡ Some g.0 = document_unique o (printed_text t) (Some h.value) (Some g.0) h.text g.1.old_text in
-      let same : h.value ≡ g.0 = cc in
-      let other : has_shape shape g.0 ≡ false = ap (has_shape shape) (sym same) ∙ sym (h.error shape) ∙ is in
-      record { before = Some g.0; op = texts.replace [] (empty_of shape); asks = λ count at. ap (kept_or_emptied shape []) (sym (stays_by_shape shape g.0 ∙ other)); is = g.1 }
+      replaced_made [] n m (empty_of shape) (value_stands old tree n e) (empty_writable o shape) r (λ w has count at.
+      let both : Some h.value ≡ Some w = document_once o t (Some h.value) (Some w) h.says.value has in
+      let same : h.value ≡ w = cc in
+      ap (kept_or_emptied shape []) (sym (stays_by_shape shape w ∙ (ap (has_shape shape) (sym same) ∙ sym (h.error shape) ∙ is))))
 
   -- the value of a property has to be of a shape
-  record HeldMade (path : List ℕ) (shape : Shape) : Type 0 where
-    w : Plain
-    v : Plain
-    op : Operation
-    stands : StandsAt v path (Some w)
-    asks : op ≡ ensures shape over.Replace path v
-    is : IsMade o (Some w) op t u
-
-  held_made : (path : List ℕ) (shape : Shape) → property_values.Ensured old new path shape → HeldMade path shape
-  held_made path shape (property_values.has_stayed n at is same) =
-      let known = document_printed o t s.shaped s.lines in
-      let value = some_value_of o (gives_way_to_itself old tree path n at) known.0 known.2 in
-      let text = prints_value o t (Some value.0) s value.1 in
-      let there = value_there path n at value.0 text in
-      record { w = value.0; v = there.v; op = texts.nothing; stands = there.stands; asks = ap (kept_or_emptied shape path) (sym (stays_by_shape shape there.v ∙ (sym (there.of_shape shape) ∙ is))); is = none_made (Some value.0) text same }
-  held_made path shape (property_values.has_given_way n m at is r) =
-      let g = replaced_made path n m (empty_of shape) at (empty_writable o shape) r in
-      let there = value_there path n at g.0 g.1.old_text in
-      record { w = g.0; v = there.v; op = texts.replace path (empty_of shape); stands = there.stands; asks = ap (kept_or_emptied shape path) (sym (stays_by_shape shape there.v ∙ (sym (there.of_shape shape) ∙ is))); is = g.1 }
+  held_made : {e : PlainEdit} (path : List ℕ) (shape : Shape) → property_values.Ensured old new path shape
+      → ((w v : Plain) (op : Operation) → DocumentValueOf o t (Some w) → StandsAt v path (Some w) → op ≡ ensures shape over.Replace path v → (count : ℕ) → IsNamed (Some w) count e → Asks (Some w) e op) → EditMade o e t u
+  held_made path shape (property_values.has_stayed n at is same) asks =
+      let w = some_says o (gives_way_to_itself old tree path n at) s in
+      let there = value_there path n at w.0 w.1.value in
+      none_made (Some w.0) w.1 same (asks w.0 there.v texts.nothing w.1.value there.stands (ap (kept_or_emptied shape path) (sym (stays_by_shape shape there.v ∙ (sym (there.of_shape shape) ∙ is)))))
+  held_made path shape (property_values.has_given_way n m at is r) asks =
+      replaced_made path n m (empty_of shape) at (empty_writable o shape) r (λ w has.
+      let there = value_there path n at w has in
+      asks w there.v (texts.replace path (empty_of shape)) has there.stands (ap (kept_or_emptied shape path) (sym (stays_by_shape shape there.v ∙ (sym (there.of_shape shape) ∙ is)))))
 
   -- the first property of a name, or one that comes
   module _ (path : List ℕ) (n : ℕ) (name : List ℕ) (shape : Shape) (at : IsObjectAt old path n) where
@@ -301,107 +269,48 @@ module _ (o : Options) (old new : List Node) (tree : IsTree old) (after : IsTree
         let last = properties.came_last o old new path n comes.property name (empty_of shape) tree s at characters (empty_writable o shape) comes.put in
         let w = last.came.is in
         let f = finds_member o old path n name None tree s at.0 at.1 first in
-        let both : Some f.value ≡ Some w.before = document_unique o (printed_text t) (Some f.value) (Some w.before) f.text w.old_text in
+        let both : Some f.value ≡ Some w.before = document_once o t (Some f.value) (Some w.before) f.says.value w.old.value in
         let same : f.value ≡ w.before = cc in
-        let objects : Plain.object f.members ≡ Plain.object w.gains.old = value_once (subst (λ x. Changed (Plain.object f.members) (Plain.object f.members) path x x) same f.at) w.gains.changed in
-        let members : f.members ≡ w.gains.old = cc in
-        record {
-          before = Some w.before;
-          op = texts.insert an_object path last.i (entry name (empty_of shape));
-          asks = λ count at. (w.gains.old, changed (left_so w.gains.changed), inr (subst (LacksMember name) members f.among, last.i, last.far, refl));
-          is = property_made path last.i name (empty_of shape) last.came (property_brings_none o old new tree s w.sound path n at.0 at.1 (length (elements_at old n)) last.i comes.property (entry name (empty_of shape)) characters (empty_writable o shape).texts comes.put);
-        }
+        let objects : Plain.object f.members ≡ Plain.object w.value.old = value_once (subst (λ x. Changed (Plain.object f.members) (Plain.object f.members) path x x) same f.at) w.value.changed in
+        let members : f.members ≡ w.value.old = cc in
+        property_made path last.i name (empty_of shape) last.came
+        (property_brings_none o old new tree s w.new.sound path n at.0 at.1 (length (elements_at old n)) last.i comes.property (entry name (empty_of shape)) characters (empty_writable o shape).texts comes.put)
+        (λ count at. (w.value.old, changed (left_so w.value.changed), inr (subst (LacksMember name) members f.among, last.i, last.far, refl)))
     named_made over.Keep characters (Some r) answer first (told, same) =
         let f = finds_member o old path n name (Some r) tree s at.0 at.1 first in
         let i : ℕ = f.among.0 in
         let holds = value_held o old tree s (path ++ i ∷ []) r (named_there r first i f.among.1) in
-        let there = value_there (path ++ i ∷ []) holds.value holds.at f.value f.text in
-        record {
-          before = Some f.value;
-          op = texts.nothing;
-          asks = λ count at. (f.members, changed f.at, inl (i, there.v, f.among.2, there.stands, ap (kept_or_emptied shape (path ++ i ∷ [])) (sym (keeps shape there.v))));
-          is = none_made (Some f.value) f.text same;
-        }
+        let there = value_there (path ++ i ∷ []) holds.value holds.at f.value f.says.value in
+        none_made (Some f.value) f.says same (λ count at. (f.members, changed f.at, inl (i, there.v, f.among.2, there.stands, ap (kept_or_emptied shape (path ++ i ∷ [])) (sym (keeps shape there.v)))))
     named_made over.Replace characters (Some r) answer first (m, told, (named, set)) =
         let f = finds_member o old path n name (Some r) tree s at.0 at.1 first in
         let i : ℕ = f.among.0 in
-        let h = held_made (path ++ i ∷ []) shape (property_values.value_ensured o old new tree s (path ++ i ∷ []) r (named_there r first i f.among.1) shape (named, m, set)) in
-        let both : Some f.value ≡ Some h.w = document_unique o (printed_text t) (Some f.value) (Some h.w) f.text h.is.old_text in
-        let same : f.value ≡ h.w = cc in
-        record {
-          before = Some h.w;
-          op = h.op;
-          asks = λ count at. (f.members, changed (subst (λ x. Changed (Plain.object f.members) (Plain.object f.members) path x x) same f.at), inl (i, h.v, f.among.2, h.stands, h.asks));
-          is = h.is;
-        }
+        held_made (path ++ i ∷ []) shape (property_values.value_ensured o old new tree s (path ++ i ∷ []) r (named_there r first i f.among.1) shape (named, m, set)) (λ w v op has stands asked count at.
+        let both : Some f.value ≡ Some w = document_once o t (Some f.value) (Some w) f.says.value has in
+        let same : f.value ≡ w = cc in
+        (f.members, changed (subst (λ x. Changed (Plain.object f.members) (Plain.object f.members) path x x) same f.at), inl (i, v, f.among.2, stands, asked)))
 
   -- a comment leaves
-  comment_made : (number n : ℕ) → CommentTaken old new n → LosesComment t u → MadeIn o t (texts.remove_comment number) u → EditMade o (remove_comment number) t u
-  comment_made number n r loses made =
-      let sound = taken_sound old new n r o s in
-      let was = document_printed o t s.shaped s.lines in
-      let now = document_printed o u sound.shaped sound.lines in
-      let same : now.0 ≡ was.0 = document_once o u now.0 was.0 now.2 (taken_value old new n r o was.0 was.2) in
+  comment_made : (number n : ℕ) → CommentTaken old new n → MadeIn o t (texts.remove_comment number) u → EditMade o (remove_comment number) t u
+  comment_made number n r made =
       let lost : LosesComment t u = made.0 in
       let m = one_mark_leaves lost.blanks lost.text (leaves lost.spaced) (leaves u) lost.are_blanks lost.around in
-      record {
-        before = was.0;
-        op = texts.remove_comment number;
-        asks = λ count at. refl;
-        is = record {
-          after = was.0;
-          old_text = was.1;
-          new_text = subst (IsDocument o (printed_text u)) same now.1;
-          changed = by_comment;
-          sound = sound;
-          marked = (
-            trimmed (chars lost.text),
-            record { front = m.0.front; back = m.0.back; before = sym (spaces_marks lost.spaces) ∙ m.0.before; after = m.0.after },
-            ap (λ l. length (comments_of l)) m.1 ∙ made.1,
-          );
-          made = made;
-        };
-      }
+      let gone : MarksDifferIn (comment_mark (chars lost.text) ∷ []) [] (marks t) (marks u) = record { front = m.0.front; back = m.0.back; before = sym (spaces_marks lost.spaces) ∙ m.0.before; after = m.0.after } in
+      let w = value_kept (MarksDifferIn (comment_mark (chars lost.text) ∷ []) []) o o s (taken_sound old new n r o s) (taken_value old new n r o) gone in
+      made_so (texts.remove_comment number) w (unchanged by_comment w.value) (trimmed (chars lost.text), gone, ap (λ l. length (comments_of l)) m.1 ∙ made.1) made (λ count at. refl)
 
   -- a property is replaced
   property_replaced : (path : List ℕ) (n m : ℕ) (name : List ℕ) (v : Plain) → IsPropertyAt old path n → IsCharacters name → IsWritable o v → IsPropertyReplaced old new n name v m → EditMade o (replace_property path name v) t u
   property_replaced _ n m name v (a_property front c i at inside) characters may r =
-      let w = writes_property o old new front c i n m name v tree s at inside.of_object inside.element characters may r in
+      let w = (writes_property o old new front c i n m name v tree s at inside.of_object inside.element characters may r).is in
       let g = property_gives_way o old new (front ++ i ∷ []) n m name v tree s (a_property front c i at inside) characters may r in
-      record {
-        before = Some w.before;
-        op = texts.replace_property (front ++ i ∷ []) (entry name v);
-        asks = λ count at. (at, refl);
-        is = record {
-          after = Some w.after;
-          old_text = w.old_text;
-          new_text = w.new_text;
-          changed = by_property front i w.replaced;
-          sound = w.sound;
-          marked = property_marked o t u (front ++ i ∷ []) name v characters may g;
-          made = g;
-        };
-      }
+      made_so (texts.replace_property (front ++ i ∷ []) (entry name v)) w (by_property front i w.value) (property_marked o t u (front ++ i ∷ []) name v characters may g) g (λ count at. (at, refl))
 
   -- a property gets another name
   property_renamed : (path : List ℕ) (n m : ℕ) (name : List ℕ) → IsPropertyAt old path n → IsCharacters name → IsRenamed old new n name m → EditMade o (rename_property path name) t u
   property_renamed _ n m name (a_property front c i at inside) characters r =
-      let place = a_property front c i at inside in
-      let w = writes_name o old new front c i n m name tree s at inside.of_object inside.element characters r in
-      record {
-        before = Some w.before;
-        op = texts.rename_property (front ++ i ∷ []) name;
-        asks = λ count at. (at, refl);
-        is = record {
-          after = Some w.after;
-          old_text = w.old_text;
-          new_text = w.new_text;
-          changed = by_name front i w.renamed;
-          sound = w.sound;
-          marked = (marks_under (top_at old r.0), is_marked old new n m name tree r r.0 r.1 (property_over old tree (front ++ i ∷ []) n place).0 characters);
-          made = renames_property o old new (front ++ i ∷ []) n m name tree s place r;
-        };
-      }
+      let w = (writes_name o old new front c i n m name tree s at inside.of_object inside.element characters r).is in
+      made_so (texts.rename_property (front ++ i ∷ []) name) w (by_name front i w.value) w.marks (renames_property o old new (front ++ i ∷ []) n m name tree s (a_property front c i at inside) r) (λ count at. (at, refl))
 
   remark_there : (path : List ℕ) (n : ℕ) (place : Place) (text : List ℕ) → IsEntryAt old path n → IsUtf8 text → MayCome place old n text → Comes place old new n text → SoundTree o u → MadeIn o t (texts.insert_comment path place (chars text)) u
   remark_there path n Above text at utf8 may comes sound =
@@ -414,130 +323,70 @@ module _ (o : Options) (old new : List Node) (tree : IsTree old) (after : IsTree
   remark_made : (path : List ℕ) (n : ℕ) (place : Place) (text : List ℕ) → IsEntryAt old path n → IsUtf8 text → IsTrue o.comments → MayCome place old n text → Comes place old new n text → EditMade o (insert_comment path place text) t u
   remark_made path n place text at utf8 allowed may comes =
       let w = inserts old new n text tree utf8 place may comes o s allowed (entry_is old tree path n at).below in
-      record {
-        before = w.value;
-        op = texts.insert_comment path place (chars text);
-        asks = λ count at. (at, refl);
-        is = record {
-          after = w.value;
-          old_text = w.old_text;
-          new_text = w.new_text;
-          changed = by_inserting_comment;
-          sound = w.sound;
-          marked = w.marked;
-          made = remark_there path n place text at utf8 may comes w.sound;
-        };
-      }
+      made_so (texts.insert_comment path place (chars text)) w (unchanged by_inserting_comment w.value) w.marks (remark_there path n place text at utf8 may comes w.new.sound) (λ count at. (at, refl))
 
   -- a truth value is set
   boolean_set : (path : List ℕ) (n : ℕ) (b : Bool) → IsBooleanAt old path n → BooleanSet old new n b → EditMade o (set_boolean path b) t u
   boolean_set path n b at set =
-      let w = writes_boolean o old new path n b tree s at.0 at.1 set in
+      let w = (writes_boolean o old new path n b tree s at.0 at.1 set).is in
       let given = boolean_given old new path n b tree at set in
       let g = given.1 in
-      record {
-        before = Some w.before;
-        op = texts.set_boolean path b;
-        asks = λ count at. (at, refl);
-        is = record {
-          after = Some w.after;
-          old_text = w.old_text;
-          new_text = w.new_text;
-          changed = by_boolean (boolean_changed o old path n tree s at w.old_text w.changed).1;
-          sound = w.sound;
-          marked = (given.0, subst (λ (x : Top). MarksDifferIn (marks_under x) (written (Plain.boolean b)) (marks t) (marks u)) given.2 (marks_given g.was (laid g.layout (Plain.boolean b)) t g.spaced u g.spaces g.around));
-          made = (given.0, given.1, given.2, given.3, given.4, given.5 o s);
-        };
-      }
+      made_so (texts.set_boolean path b) w (by_boolean (boolean_changed o old path n tree at w.old.value w.value.1).1)
+      (given.0, subst (λ (x : Top). MarksDifferIn (marks_under x) (written (Plain.boolean b)) (marks t) (marks u)) given.2 (marks_given g.was (laid g.layout (Plain.boolean b)) t g.spaced u g.spaces g.around))
+      (given.0, given.1, given.2, given.3, given.4, given.5 o s) (λ count at. (at, refl))
 
   -- all leaves
   root_cleared : children_at new 0 ≡ [] → EditMade o clear_root t u
   root_cleared empty =
-      let was = document_printed o t s.shaped s.lines in
-      let now = (leaves_bare o new after empty).means in
-      let bare = no_leaves new after empty in
-      record {
-        before = was.0;
-        op = texts.clear_root;
-        asks = λ count at. refl;
-        is = record { after = None; old_text = was.1; new_text = now.text; changed = by_clearing; sound = now.sound; marked = ap marks bare ∙ root_marks none; made = bare };
-      }
+      let was = says o t s in
+      let now = leaves_bare o new after empty in
+      record { op = texts.clear_root; is = record { before = was.0; after = None; old = was.1; new = now.means; value = by_clearing; marks = now.unmarked }; made = no_leaves new after empty; asks = λ count at. refl }
 
   -- Each edit that was made.
   pub edit_made : (e : PlainEdit) → IsOfCharacters e → Allows o e → EditStep old e new → EditMade o e t u
-  edit_made (replace path v) h k (n, at, (m, r)) =
-      let g = replaced_made path n m v at (record { texts = h; numbers = k }) r in
-      record { before = Some g.0; op = texts.replace path v; asks = λ count at. (at, refl); is = g.1 }
+  edit_made (replace path v) h k (n, at, (m, r)) = replaced_made path n m v at (record { texts = h; numbers = k }) r (λ w has count at. (at, refl))
   edit_made (remove path) h k (n, at, takes) = entry_made o t u path s (entry_leaves path n at takes)
-  edit_made (remove_comment number) h k (n, at, r) =
-      let seam = comment_has_seam old new n r in
-      comment_made number n r (loses_comment old new n r) (loses_comment old new n r, numbered old new n r number at, seam.0, seam.1 number at)
+  edit_made (remove_comment number) h k (n, at, r) = let seam = comment_has_seam old new n r in comment_made number n r (loses_comment old new n r, numbered old new n r number at, seam.0, seam.1 number at)
   edit_made (set_root v) h k made = root_set v (record { texts = h; numbers = k }) (value_at old 0) refl made
   edit_made clear_root h k made = root_cleared (emptied old new made)
   edit_made (replace_property path name v) h k (n, at, (m, r)) = property_replaced path n m name v at h.0 (record { texts = h.1; numbers = k }) r
   edit_made (ensure_root shape how) h k made = root_ensured shape how (ensured old new shape how made)
   edit_made (set_value path v) h k (r, at, set) =
       let given = set_replaced o old new tree s path r at v set in
-      let g = replaced_made path given.0 given.1 v given.2 (record { texts = h; numbers = k }) given.3 in
-      record { before = Some g.0; op = texts.replace path v; asks = λ count at. (at, refl); is = g.1 }
-  edit_made (ensure_value path shape) h k (r, at, made) =
-      let m = held_made path shape (property_values.value_ensured o old new tree s path r at shape made) in
-      record { before = Some m.w; op = m.op; asks = λ count at. (at, m.v, m.stands, m.asks); is = m.is }
+      replaced_made path given.0 given.1 v given.2 (record { texts = h; numbers = k }) given.3 (λ w has count at. (at, refl))
+  edit_made (ensure_value path shape) h k (r, at, made) = held_made path shape (property_values.value_ensured o old new tree s path r at shape made) (λ w v op has stands asked count at. (at, v, stands, asked))
   edit_made (set_boolean path b) h k (n, at, set) = boolean_set path n b at set
   edit_made (ensure_multiline path) h k (n, at, made) =
       let g = spread_at o old new path n tree s at.0 at.1 made in
       let w = keeps_document o t u path s g in
-      record { before = w.value; op = texts.ensure_multiline path; asks = λ count at. (at, refl); is = record { after = w.value; old_text = w.old_text; new_text = w.new_text; changed = by_lines; sound = w.sound; marked = w.marks; made = (g, lines_bring_none o old new tree s w.sound path n at.0 at.1 made) } }
+      made_so (texts.ensure_multiline path) w (unchanged by_lines w.value) w.marks (g, lines_bring_none o old new tree s w.new.sound path n at.0 at.1 made) (λ count at. (at, refl))
   edit_made (insert_element path i v) h k (n, at, (m, put)) =
       let came = elements.came_in o old new path n m v tree s at (record { texts = h; numbers = k }) i put in
-      record { before = Some came.is.before; op = texts.insert an_array path i (entry [] v); asks = λ count at. (at, refl); is = element_made path i v came (element_brings_none o old new tree s came.is.sound path n at.0 at.1 i i m (entry [] v) h put) }
+      element_made path i v came (element_brings_none o old new tree s came.is.new.sound path n at.0 at.1 i i m (entry [] v) h put) (λ count at. (at, refl))
   edit_made (append_element path v) h k (n, at, (m, put)) =
       let last = elements.came_last o old new path n m v tree s at (record { texts = h; numbers = k }) put in
       let w = last.came.is in
-      record {
-        before = Some w.before;
-        op = texts.insert an_array path last.i (entry [] v);
-        asks = λ count at. (w.gains.old, last.i, changed (left_so w.gains.changed), last.far, refl);
-        is = element_made path last.i v last.came (element_brings_none o old new tree s w.sound path n at.0 at.1 (length (elements_at old n)) last.i m (entry [] v) h put);
-      }
+      element_made path last.i v last.came (element_brings_none o old new tree s w.new.sound path n at.0 at.1 (length (elements_at old n)) last.i m (entry [] v) h put) (λ count at. (w.value.old, last.i, changed (left_so w.value.changed), last.far, refl))
   edit_made (insert_property path i name v) h k (n, at, (m, put)) =
       let came = properties.came_in o old new path n m name v tree s at h.0 (record { texts = h.1; numbers = k }) i put in
-      record { before = Some came.is.before; op = texts.insert an_object path i (entry name v); asks = λ count at. (at, refl); is = property_made path i name v came (property_brings_none o old new tree s came.is.sound path n at.0 at.1 i i m (entry name v) h.0 h.1 put) }
+      property_made path i name v came (property_brings_none o old new tree s came.is.new.sound path n at.0 at.1 i i m (entry name v) h.0 h.1 put) (λ count at. (at, refl))
   edit_made (append_property path name v) h k (n, at, (m, put)) =
       let last = properties.came_last o old new path n m name v tree s at h.0 (record { texts = h.1; numbers = k }) put in
       let w = last.came.is in
-      record {
-        before = Some w.before;
-        op = texts.insert an_object path last.i (entry name v);
-        asks = λ count at. (w.gains.old, last.i, changed (left_so w.gains.changed), last.far, refl);
-        is = property_made path last.i name v last.came (property_brings_none o old new tree s w.sound path n at.0 at.1 (length (elements_at old n)) last.i m (entry name v) h.0 h.1 put);
-      }
+      property_made path last.i name v last.came (property_brings_none o old new tree s w.new.sound path n at.0 at.1 (length (elements_at old n)) last.i m (entry name v) h.0 h.1 put)
+      (λ count at. (w.value.old, last.i, changed (left_so w.value.changed), last.far, refl))
   edit_made (ensure_property path name shape how) h k (n, at, (m, (found, first, by))) = named_made path n name shape at how h found m first by
   edit_made (set_commas path mode) h k (n, at, set) =
       let w = commas_say o old new path n tree s at mode set in
       let placed = commas_placed o old new path n tree s at mode set in
-      record {
-        before = w.value;
-        op = texts.set_commas true path mode;
-        asks = λ count at. refl;
-        is = record { after = w.value; old_text = w.old_text; new_text = w.new_text; changed = by_commas; sound = w.sound; marked = w.marks; made = (w.commas, placed.0, placed.1) };
-      }
+      made_so (texts.set_commas true path mode) w.is (unchanged by_commas w.is.value) w.is.marks (w.commas, placed.0, placed.1) (λ count at. refl)
   edit_made (set_some_commas path mode) h k (n, at, part) =
       let w = some_commas_say o old new path n tree s at mode part in
-      record {
-        before = w.value;
-        op = texts.set_commas false path mode;
-        asks = λ count at. refl;
-        is = record { after = w.value; old_text = w.old_text; new_text = w.new_text; changed = by_commas; sound = w.sound; marked = w.marks; made = (w.commas, some_commas_within o old new path n tree s at mode part) };
-      }
+      made_so (texts.set_commas false path mode) w.is (unchanged by_commas w.is.value) w.is.marks (w.commas, some_commas_within o old new path n tree s at mode part) (λ count at. refl)
   edit_made (rearrange by_blank_lines path headers order) h k (n, at, (all, made, pins)) =
       let a = sorted_at o old new path n tree s at headers order after all made in
       let w = sorted_says o path order old new s a.0 in
-      record {
-        before = Some w.old;
-        op = texts.rearrange by_blank_lines path order;
-        asks = λ count at. (at, refl);
-        is = record { after = Some w.new; old_text = w.old_text; new_text = w.new_text; changed = by_sorting w.entries; sound = w.sound; marked = w.marks; made = (a.0, sorted_outside path order old new a.0, (λ e. a.1 (pins e)), sort_brings_none o old new tree s w.sound by_blank_lines path n headers order after at.0 at.1 all made) };
-      }
+      made_so (texts.rearrange by_blank_lines path order) w (by_sorting w.value) w.marks
+      (a.0, sorted_outside path order old new a.0, (λ e. a.1 (pins e)), sort_brings_none o old new tree s w.new.sound by_blank_lines path n headers order after at.0 at.1 all made) (λ count at. (at, refl))
   edit_made (rename_property path name) h k (n, at, (m, r)) = property_renamed path n m name at h r
   edit_made (insert_comment path place text) h k (n, at, (may, comes)) = remark_made path n place text at h k may comes

@@ -3,24 +3,15 @@ use Rattle.std.specs.Prelude.{List, [], ◌∷◌, Option}
 use Rattle.std.specs.List.{All}
 use Rattle.jsonc_text.specs.Options.{Options}
 use Rattle.jsonc_text.specs.Plain.{Plain}
-use Rattle.jsonc_text.specs.Grammar.{IsDocument}
 use Rattle.jsonc_tree.specs.Tree.{Node}
 use Rattle.jsonc_tree.specs.OrderedTree.{OrderedTree, ordered_tree}
-use Rattle.jsonc_tree.specs.Values.{DocumentValueOf}
-use Rattle.jsonc_sound.specs.Shape.{printed_text}
-use Rattle.jsonc_sound.specs.Marks.{AreMarks, marks}
+use Rattle.jsonc_sound.specs.Marks.{marks}
 use Rattle.jsonc_sound.specs.SoundTrees.{SoundTree}
+use Rattle.jsonc_sound.specs.Edited.{Says}
 use Rattle.jsonc_run.specs.Edits.{IsOfCharacters, Allows, PlainEdit}
 use Rattle.jsonc_run.specs.Written.{IsMarked, IsChanged, MadeIn}
 use Rattle.jsonc_run.specs.Named.{comment_count, IsNamed, Asks}
 use Rattle.jsonc_run.specs.texts.Edits.{Operation, options_behind}
-
--- the tree is sound, has the value, and prints a text that says it
-pub record Says (o : Options) (t : OrderedTree) (w : Option Plain) : Type 0 where
-  pub sound : SoundTree o t
-  pub value : DocumentValueOf o t w
-  pub text : IsDocument o (printed_text t) w
-  pub marks : AreMarks o (printed_text t) (marks t)
 
 -- One operation is made: of the value it makes the new one's, and of the marks; and it is made at its place, all around which stays.
 pub record Step (o : Options) (t : OrderedTree) (w : Option Plain) (op : Operation) (u : OrderedTree) (x : Option Plain) : Type 0 where

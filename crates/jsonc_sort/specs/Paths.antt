@@ -1,18 +1,16 @@
 -- Laws of arrays and objects of a document whose elements come in another order, by the numbers of nodes.
-use Rattle.std.specs.Prelude.{◌≡◌, ◌<◌, ℕ, Bool, List, count_by, length, Some, IsTrue}
+use Rattle.std.specs.Prelude.{◌≡◌, ◌<◌, ℕ, Bool, List, count_by, length, IsTrue}
 use Rattle.jsonc_text.specs.Options.{Options}
-use Rattle.jsonc_text.specs.Plain.{Plain}
-use Rattle.jsonc_text.specs.Grammar.{IsDocument}
 use Rattle.jsonc_tree.specs.OrderedTree.{OrderedTree, Top, leaves, ordered_tree}
 use Rattle.jsonc_tree.specs.Tree.{Node, content_at, IsTree}
 use Rattle.jsonc_layout.specs.nodes.Siblings.{elements_at}
 use Rattle.jsonc_layout.specs.lines.Kinds.{is_array_or_object}
-use Rattle.jsonc_sound.specs.Shape.{printed_text}
 use Rattle.jsonc_sound.specs.ChangeLaws.{DiffersIn}
-use Rattle.jsonc_sound.specs.Marks.{Mark, marks}
+use Rattle.jsonc_sound.specs.Marks.{Mark}
 use Rattle.jsonc_sound.specs.Rows.{RowKind}
 use Rattle.jsonc_sound.specs.SoundTrees.{SoundTree}
 use Rattle.jsonc_sound.specs.TreeChanges.{leaves_of, DocumentChanged}
+use Rattle.jsonc_sound.specs.Edited.{ValueEdited}
 use Rattle.jsonc_edit.specs.Paths.{IsAt}
 use Rattle.jsonc_sort.specs.Sorting.{Headers}
 use Rattle.jsonc_sort.specs.Rearranged.{IsOrderIn, Rearranged}
@@ -42,16 +40,9 @@ SortsAt o old new path c h order =
     IsTree old → IsTree new → SoundTree o (ordered_tree old 0) → IsAt old path c → IsTrue (is_array_or_object (content_at old c)) → IsOrderIn old c order
     → Rearranged old new c h order → (s : SortedAt path order (ordered_tree old 0) (ordered_tree new 0)) × (PinsUnderBlankLines old c h → PinsIn s)
 
--- The text was a document, and is one whose value has the entries at the path in that order; each literal and comment is
--- there as often as before; and the document is sound.
-pub record SaysSorted (o : Options) (path order : List ℕ) (t u : OrderedTree) : Type 0 where
-  pub old : Plain
-  pub new : Plain
-  pub old_text : IsDocument o (printed_text t) (Some old)
-  pub new_text : IsDocument o (printed_text u) (Some new)
-  pub entries : SortsEntries path order old new
-  pub marks : (test : Mark → Bool) → count_by test (marks u) ≡ count_by test (marks t)
-  pub sound : SoundTree o u
+-- the value has the entries at the path in that order, and each literal and comment is there as often as before
+abbrev pub SaysSorted : Options → List ℕ → List ℕ → OrderedTree → OrderedTree → Type 0
+SaysSorted o path order t u = ValueEdited o (SortsEntries path order) (λ x y. (test : Mark → Bool) → count_by test y ≡ count_by test x) t u
 
 abbrev pub SortsDocument : Options → OrderedTree → OrderedTree → List ℕ → List ℕ → Type 0
 SortsDocument o t u path order = SoundTree o t → SortedAt path order t u → SaysSorted o path order t u

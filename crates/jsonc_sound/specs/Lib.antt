@@ -23,6 +23,7 @@ pub mod SoundTrees
 pub mod WorkedEdits
 pub mod Marks
 pub mod Documents
+pub mod Edited
 pub mod Written
 pub mod MarkChanges
 pub mod MarkLaws

@@ -1,17 +1,14 @@
 -- Laws of trailing commas that are set: what becomes of the document.
-use Rattle.std.specs.Prelude.{◌≡◌, ◌<◌, ◌⊎◌, ◌&&◌, ◌||◌, ℕ, Bool, true, false, not, List, length, Option, None, Some, IsTrue}
+use Rattle.std.specs.Prelude.{◌≡◌, ◌<◌, ◌⊎◌, ◌&&◌, ◌||◌, ℕ, Bool, true, false, not, List, length, None, Some, IsTrue}
 use Rattle.std.specs.List.{All}
 use Rattle.jsonc_text.specs.Options.{Options, without_trailing}
-use Rattle.jsonc_text.specs.Plain.{Plain}
-use Rattle.jsonc_text.specs.Grammar.{IsDocument}
 use Rattle.jsonc_tree.specs.Content.{Content, token}
 use Rattle.jsonc_tree.specs.OrderedTree.{OrderedTree, none, more, ordered_tree}
 use Rattle.jsonc_tree.specs.Tree.{Node, content_at, IsTree, IsOver}
 use Rattle.jsonc_layout.specs.lines.Siblings.{trailing_comma_at}
 use Rattle.jsonc_layout.specs.nodes.Kinds.{is_comma, is_element, is_newline, is_token, is_trivia}
 use Rattle.jsonc_layout.specs.lines.Kinds.{is_array_or_object}
-use Rattle.jsonc_sound.specs.Shape.{printed_text}
-use Rattle.jsonc_sound.specs.Marks.{marks}
+use Rattle.jsonc_sound.specs.Edited.{ValueKept}
 use Rattle.jsonc_sound.specs.Alone.{ValueAlone}
 use Rattle.jsonc_sound.specs.SoundTrees.{SoundTree}
 use Rattle.jsonc_sound.specs.TreeChanges.{DocumentChanged}
@@ -68,15 +65,10 @@ abbrev pub allowing : TrailingCommaMode → Options → Options
 allowing Never o = o
 allowing IfMultiline o = record o { trailing_commas = true }
 
--- The text was a document, and is one of the same value, with what the mode sets allowed; its literals and comments are those that it had, in order; commas
--- alone have left or come; and the document is sound.
+-- With what the mode sets allowed the value and the literals and comments are those that were there, in order; commas alone are removed or inserted.
 pub record SaysTheSame (mode : TrailingCommaMode) (o : Options) (t u : OrderedTree) : Type 0 where
-  pub value : Option Plain
-  pub old_text : IsDocument o (printed_text t) value
-  pub new_text : IsDocument (allowing mode o) (printed_text u) value
-  pub marks : marks u ≡ marks t
+  pub is : ValueKept o (allowing mode o) (λ x y. y ≡ x) t u
   pub commas : OnlyCommas mode t u
-  pub sound : SoundTree (allowing mode o) u
 
 -- c is a node of a sound document
 pub record IsInSound (o : Options) (ns : List Node) (c : ℕ) : Type 0 where

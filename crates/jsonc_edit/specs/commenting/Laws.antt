@@ -1,21 +1,20 @@
 -- Laws of comments that come: what becomes of the document.
-use Rattle.std.specs.Prelude.{◌≡◌, ◌==◌, ◌||◌, ℕ, Bool, false, List, [], ◌∷◌, ◌++◌, Option, Some, IsTrue, chars, if◌then◌else◌}
+use Rattle.std.specs.Prelude.{◌≡◌, ◌==◌, ◌||◌, ℕ, Bool, false, List, [], ◌∷◌, ◌++◌, Some, IsTrue, chars, if◌then◌else◌}
 use Rattle.std.specs.List.{list_any}
 use Rattle.jsonc_text.specs.Options.{Options}
-use Rattle.jsonc_text.specs.Plain.{Plain}
 use Rattle.jsonc_text.specs.Gaps.{IsComment}
-use Rattle.jsonc_text.specs.Grammar.{IsDocument}
 use Rattle.jsonc_tree.specs.Content.{Content, comment, token}
 use Rattle.jsonc_tree.specs.OrderedTree.{OrderedTree, leaves, ordered_tree}
 use Rattle.jsonc_tree.specs.Tree.{Node, content_at, parent_at, IsOver, IsTree}
 use Rattle.jsonc_layout.specs.lines.Kinds.{is_array_or_object}
 use Rattle.jsonc_layout.specs.nodes.Kinds.{is_comma, is_element_at, is_inline_trivia, is_newline}
 use Rattle.jsonc_sound.specs.ChangeLaws.{DiffersIn}
+use Rattle.jsonc_sound.specs.Edited.{ValueKept}
 use Rattle.jsonc_sound.specs.Leaving.{AreInlineTrivia}
 use Rattle.jsonc_sound.specs.Lines.{is_line_comment}
 use Rattle.jsonc_sound.specs.MarkChanges.{AreBlanks, MarksDifferIn}
-use Rattle.jsonc_sound.specs.Marks.{comment_mark, marks}
-use Rattle.jsonc_sound.specs.Shape.{printed_text, IsText}
+use Rattle.jsonc_sound.specs.Marks.{comment_mark}
+use Rattle.jsonc_sound.specs.Shape.{IsText}
 use Rattle.jsonc_sound.specs.SoundTrees.{SoundTree}
 use Rattle.jsonc_sound.specs.TreeChanges.{leaves_of}
 use Rattle.jsonc_edit.specs.Changes.{top_at}
@@ -32,13 +31,9 @@ pub record IsEntry (ns : List Node) (n : ℕ) : Type 0 where
   pub element : IsTrue (is_element_at ns n)
   pub holds : IsTrue (container == 0 || is_array_or_object (content_at ns container))
 
--- The document is one again, with the value that it had, or none as before; of its marks that of this comment alone has come; and it is sound.
-pub record IsCommentInserted (o : Options) (text : List ℕ) (t u : OrderedTree) : Type 0 where
-  pub value : Option Plain
-  pub old_text : IsDocument o (printed_text t) value
-  pub new_text : IsDocument o (printed_text u) value
-  pub marked : MarksDifferIn [] (comment_mark (chars text) ∷ []) (marks t) (marks u)
-  pub sound : SoundTree o u
+-- the document has the value that it had, or none as before; of its marks that of this comment alone is inserted
+abbrev pub IsCommentInserted : Options → List ℕ → OrderedTree → OrderedTree → Type 0
+IsCommentInserted o text t u = ValueKept o o (MarksDifferIn [] (comment_mark (chars text) ∷ [])) t u
 
 -- so it is where one comes above an entry of a sound document whose options allow comments
 abbrev pub InsertsAbove : Options → List Node → List Node → ℕ → List ℕ → Type 0

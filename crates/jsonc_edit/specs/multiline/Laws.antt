@@ -1,15 +1,13 @@
 -- Laws of arrays and objects that are put on several lines: what becomes of the document.
-use Rattle.std.specs.Prelude.{◌≡◌, ℕ, false, ◌||◌, List, [], ◌∷◌, Option, IsTrue, if◌then◌else◌}
+use Rattle.std.specs.Prelude.{◌≡◌, ℕ, false, ◌||◌, List, [], ◌∷◌, IsTrue, if◌then◌else◌}
 use Rattle.jsonc_text.specs.Options.{Options}
-use Rattle.jsonc_text.specs.Plain.{Plain}
-use Rattle.jsonc_text.specs.Grammar.{IsDocument}
 use Rattle.jsonc_tree.specs.OrderedTree.{OrderedTree, Top, none, more, followed_by, leaves, ordered_tree}
 use Rattle.jsonc_tree.specs.Tree.{Node, content_at, IsTree}
 use Rattle.jsonc_layout.specs.nodes.Kinds.{is_newline, is_whitespace}
 use Rattle.jsonc_layout.specs.lines.Kinds.{is_array_or_object}
-use Rattle.jsonc_sound.specs.Shape.{printed_text, token_then}
+use Rattle.jsonc_sound.specs.Shape.{token_then}
 use Rattle.jsonc_sound.specs.ChangeLaws.{DiffersIn}
-use Rattle.jsonc_sound.specs.Marks.{marks}
+use Rattle.jsonc_sound.specs.Edited.{ValueKept}
 use Rattle.jsonc_sound.specs.Rows.{RowKind, closing, container_of}
 use Rattle.jsonc_sound.specs.SoundTrees.{SoundTree}
 use Rattle.jsonc_sound.specs.TreeChanges.{leaves_of, DocumentChanged}
@@ -37,16 +35,9 @@ SpreadsAt o old new path c =
     IsTree old → IsTree new → SoundTree o (ordered_tree old 0) → IsAt old path c → IsTrue (is_array_or_object (content_at old c)) → MadeMultiline old new c
     → SpreadAt path (ordered_tree old 0) (ordered_tree new 0)
 
--- The text was a document, and is one of the same value; its literals and comments are those that it had, in order; and the document is sound.
-pub record SaysTheSame (o : Options) (t u : OrderedTree) : Type 0 where
-  pub value : Option Plain
-  pub old_text : IsDocument o (printed_text t) value
-  pub new_text : IsDocument o (printed_text u) value
-  pub marks : marks u ≡ marks t
-  pub sound : SoundTree o u
-
+-- the value and the literals and comments are those that were there, in order
 abbrev pub KeepsDocument : Options → OrderedTree → OrderedTree → List ℕ → Type 0
-KeepsDocument o t u path = SoundTree o t → SpreadAt path t u → SaysTheSame o t u
+KeepsDocument o t u path = SoundTree o t → SpreadAt path t u → ValueKept o o (λ x y. y ≡ x) t u
 
 -- all leaves outside of the array or object stay
 abbrev pub KeepsLeavesOutside : {path : List ℕ} {t u : OrderedTree} → SpreadAt path t u → Type 0

@@ -1,9 +1,7 @@
 -- Laws of comments that leave behind an element that has been taken out: what becomes of the document.
-use Rattle.std.specs.Prelude.{ℕ, List, [], ◌∷◌, ◌++◌, map, Option, IsTrue}
+use Rattle.std.specs.Prelude.{ℕ, List, [], ◌∷◌, ◌++◌, map, IsTrue}
 use Rattle.std.specs.List.{All}
 use Rattle.jsonc_text.specs.Options.{Options}
-use Rattle.jsonc_text.specs.Plain.{Plain}
-use Rattle.jsonc_text.specs.Grammar.{IsDocument}
 use Rattle.jsonc_tree.specs.Content.{Content}
 use Rattle.jsonc_tree.specs.OrderedTree.{OrderedTree, leaves, ordered_tree}
 use Rattle.jsonc_tree.specs.Tree.{Node, content_at, IsOver, IsTree}
@@ -11,7 +9,7 @@ use Rattle.jsonc_layout.specs.lines.Kinds.{is_array_or_object}
 use Rattle.jsonc_layout.specs.nodes.Kinds.{is_comment_at}
 use Rattle.jsonc_sound.specs.ChangeLaws.{DiffersIn}
 use Rattle.jsonc_sound.specs.MarkChanges.{AreBlanks}
-use Rattle.jsonc_sound.specs.Shape.{printed_text}
+use Rattle.jsonc_sound.specs.Edited.{ValueKept}
 use Rattle.jsonc_sound.specs.SoundTrees.{SoundTree}
 use Rattle.jsonc_edit.specs.remove.Comments.{AreCleared}
 
@@ -29,13 +27,9 @@ pub data AreSomeOf : List ℕ → List ℕ → Type 0 where
   passed_over : {n : ℕ} {some all : List ℕ} → AreSomeOf some all → AreSomeOf some (n ∷ all)
   one_of_them : {n : ℕ} {some all : List ℕ} → AreSomeOf some all → AreSomeOf (n ∷ some) (n ∷ all)
 
--- the document is one again, with the value that it had, or none as before; of its leaves comments alone have left, with blanks; and it is sound
-pub record AreCommentsGone (o : Options) (gone : List Content) (t u : OrderedTree) : Type 0 where
-  pub value : Option Plain
-  pub old_text : IsDocument o (printed_text t) value
-  pub new_text : IsDocument o (printed_text u) value
-  pub leaves : LoseComments gone (leaves t) (leaves u)
-  pub sound : SoundTree o u
+-- the document has the value that it had, or none as before; of its leaves comments alone are removed, with blanks
+abbrev pub AreCommentsGone : Options → List Content → OrderedTree → OrderedTree → Type 0
+AreCommentsGone o gone t u = LoseComments gone (leaves t) (leaves u) × ValueKept o o (λ x y. Unit {0}) t u
 
 -- so it is where comments of an array or object of a sound document leave, and these are some of them
 abbrev pub ClearsComments : Options → List Node → List Node → ℕ → List ℕ → Type 0

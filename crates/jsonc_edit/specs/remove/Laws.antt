@@ -2,17 +2,15 @@
 use Rattle.std.specs.Prelude.{◌≡◌, ℕ, false, List, Some, None, IsTrue}
 use Rattle.jsonc_text.specs.Options.{Options}
 use Rattle.jsonc_text.specs.Plain.{Plain}
-use Rattle.jsonc_text.specs.Grammar.{IsDocument}
 use Rattle.jsonc_tree.specs.OrderedTree.{OrderedTree, ordered_tree}
 use Rattle.jsonc_tree.specs.Tree.{Node, content_at, IsOver, IsTree}
 use Rattle.jsonc_layout.specs.nodes.Kinds.{is_comment_at, is_element_at}
 use Rattle.jsonc_layout.specs.lines.Kinds.{is_array_or_object}
-use Rattle.jsonc_sound.specs.Shape.{printed_text}
 use Rattle.jsonc_sound.specs.Rows.{RowKind, container_of}
 use Rattle.jsonc_tree.specs.OrderedTree.{Top}
 use Rattle.jsonc_sound.specs.TreeChanges.{IsElement, DocumentChanged}
 use Rattle.jsonc_sound.specs.SoundTrees.{SoundTree}
-use Rattle.jsonc_sound.specs.Marks.{marks}
+use Rattle.jsonc_sound.specs.Edited.{IsEdited, ValueEdited}
 use Rattle.jsonc_sound.specs.Leaving.{ElementRemoved, ClosesUp, ValueRemoved, value_leaves, Empties}
 use Rattle.jsonc_sound.specs.EntryLaws.{LosesEntry, LosesMarks, root_with}
 use Rattle.jsonc_edit.specs.Changes.{top_at}
@@ -65,26 +63,16 @@ abbrev pub TakesValue : Options → List Node → List Node → ℕ → Type 0
 TakesValue o old new n = IsTree old → IsTree new → SoundTree o (ordered_tree old 0) → IsElementOf old 0 0 n
     → TakesElement old new n → ValueTaken (top_at old n) (ordered_tree old 0) (ordered_tree new 0)
 
--- The text was a document, and is one again, without that entry; of its marks those of the entry have left, and comments beside it; and the document is sound.
-pub record IsEntryRemoved (o : Options) (path : List ℕ) (i : ℕ) (top : Top) (t u : OrderedTree) : Type 0 where
-  pub before : Plain
-  pub after : Plain
-  pub old_text : IsDocument o (printed_text t) (Some before)
-  pub new_text : IsDocument o (printed_text u) (Some after)
-  pub loses : LosesEntry path i before after
-  pub marks : LosesMarks top (marks t) (marks u)
-  pub sound : SoundTree o u
+-- of the value that entry is removed, and of the marks those of the entry, and comments beside it
+abbrev pub IsEntryRemoved : Options → List ℕ → ℕ → Top → OrderedTree → OrderedTree → Type 0
+IsEntryRemoved o path i top t u = ValueEdited o (LosesEntry path i) (LosesMarks top) t u
 
 abbrev pub RemovesEntry : Options → OrderedTree → OrderedTree → List ℕ → ℕ → Top → Type 0
 RemovesEntry o t u path i top = SoundTree o t → EntryTaken path i top t u → IsEntryRemoved o path i top t u
 
--- the text was a document with a value, and is one without
-pub record IsValueRemoved (o : Options) (top : Top) (t u : OrderedTree) : Type 0 where
-  pub before : Plain
-  pub old_text : IsDocument o (printed_text t) (Some before)
-  pub new_text : IsDocument o (printed_text u) None
-  pub marks : LosesMarks top (marks t) (marks u)
-  pub sound : SoundTree o u
+-- the document had a value, and has none
+abbrev pub IsValueRemoved : Options → Top → OrderedTree → OrderedTree → Type 0
+IsValueRemoved o top t u = IsEdited o o Some (λ (none : Unit {0}). None) (λ (x : Plain) none. Unit {0}) (LosesMarks top) t u
 
 abbrev pub RemovesValue : Options → OrderedTree → OrderedTree → Top → Type 0
 RemovesValue o t u top = SoundTree o t → ValueTaken top t u → IsValueRemoved o top t u

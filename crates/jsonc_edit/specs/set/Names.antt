@@ -2,7 +2,6 @@
 use Rattle.std.specs.Prelude.{◌≡◌, ℕ, suc, true, false, List, ◌∷◌, [], Some}
 use Rattle.jsonc_text.specs.Options.{Options}
 use Rattle.jsonc_text.specs.Plain.{Plain, object, Members, member}
-use Rattle.jsonc_text.specs.Grammar.{IsDocument}
 use Rattle.jsonc_text.specs.Spelling.{spelled}
 use Rattle.jsonc_tree.specs.Content.{Content}
 use Rattle.jsonc_tree.specs.OrderedTree.{OrderedTree, none, more, leaves, ordered_tree}
@@ -12,10 +11,10 @@ use Rattle.jsonc_layout.specs.from_input.Texts.{IsCharacters}
 use Rattle.jsonc_layout.specs.nodes.Properties.{lacks_name_at, name_at}
 use Rattle.jsonc_sound.specs.ChangeLaws.{DiffersIn}
 use Rattle.jsonc_sound.specs.Changes.{Changed}
+use Rattle.jsonc_sound.specs.Edited.{ValueEdited}
 use Rattle.jsonc_sound.specs.MarkChanges.{MarksDifferIn, marks_under}
 use Rattle.jsonc_sound.specs.Marks.{Mark, marks}
 use Rattle.jsonc_sound.specs.Properties.{PropertyChanged}
-use Rattle.jsonc_sound.specs.Shape.{printed_text}
 use Rattle.jsonc_sound.specs.SoundTrees.{SoundTree}
 use Rattle.jsonc_sound.specs.TreeChanges.{leaves_of}
 use Rattle.jsonc_text.specs.declared.edit.EditError.{EditError}
@@ -47,21 +46,15 @@ pub record RenamesMember (path : List ℕ) (i : ℕ) (name : List ℕ) (x y : Pl
   pub renamed : MemberRenamed name i old new
   pub changed : Changed (object old) (object new) path x y
 
--- The property number i of the object at the path has this name: the old text is a document, the new text is one, and its value is the
--- old one's, but for that name; in the object's row the name of one property has been replaced, and all else of it stays. The new
--- document is sound, so it may be edited again.
+-- The property number i of the object at the path has this name: the value is the old one, but for that name; of the literals and comments one stretch has been
+-- replaced by the name; in the object's row the name of one property has been replaced, and all else of it stays.
 pub record IsNameWritten (o : Options) (path : List ℕ) (i : ℕ) (name : List ℕ) (old new : OrderedTree) : Type 0 where
   pub given_up : Content
   pub front : OrderedTree
   pub rest : OrderedTree
   pub back : OrderedTree
-  pub before : Plain
-  pub after : Plain
-  pub old_text : IsDocument o (printed_text old) (Some before)
-  pub new_text : IsDocument o (printed_text new) (Some after)
-  pub renamed : RenamesMember path i name before after
   pub changed : PropertyChanged front (more given_up none rest) (more (string_leaf name) none rest) back path old new
-  pub sound : SoundTree o new
+  pub is : ValueEdited o (RenamesMember path i name) (λ x y. (was : List Mark) × MarksDifferIn was (Mark.literal (spelled name) ∷ []) x y) old new
 
 -- so it is where a property, element number i of an object at a path of a sound document, has been given another name
 abbrev pub WritesName : Options → List Node → List Node → List ℕ → ℕ → ℕ → ℕ → ℕ → List ℕ → Type 0

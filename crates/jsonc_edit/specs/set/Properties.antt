@@ -1,17 +1,15 @@
 -- Laws of a property of a sound document that is replaced by one of another name and value.
-use Rattle.std.specs.Prelude.{◌≡◌, ℕ, List, Some}
+use Rattle.std.specs.Prelude.{◌≡◌, ℕ, List}
 use Rattle.jsonc_text.specs.Options.{Options}
 use Rattle.jsonc_text.specs.Plain.{Plain}
-use Rattle.jsonc_text.specs.Grammar.{IsDocument}
 use Rattle.jsonc_tree.specs.Content.{object}
 use Rattle.jsonc_tree.specs.OrderedTree.{OrderedTree, leaves, ordered_tree, Top}
 use Rattle.jsonc_tree.specs.Tree.{Node, content_at, IsTree}
-use Rattle.jsonc_sound.specs.Shape.{printed_text}
 use Rattle.jsonc_layout.specs.from_input.Texts.{IsCharacters}
 use Rattle.jsonc_sound.specs.ChangeLaws.{DiffersIn}
+use Rattle.jsonc_sound.specs.Edited.{ValueEdited}
 use Rattle.jsonc_sound.specs.TreeChanges.{leaves_of}
 use Rattle.jsonc_sound.specs.SoundTrees.{SoundTree}
-use Rattle.jsonc_sound.specs.Marks.{marks}
 use Rattle.jsonc_sound.specs.MarkChanges.{MarksDifferIn, marks_under}
 use Rattle.jsonc_sound.specs.Written.{property_written}
 use Rattle.jsonc_sound.specs.Properties.{PropertyChanged, ReplacesMember}
@@ -21,25 +19,17 @@ use Rattle.jsonc_edit.specs.Spaced.{SpacesPut}
 use Rattle.jsonc_edit.specs.Writing.{IsWritable}
 use Rattle.jsonc_edit.specs.set.Giving.{IsPropertyReplaced}
 
--- The property number i of the object at the path has been replaced by one of this name and value: the old text is a
--- document, the new text is one, and its value is the old one's, but for that entry; spaces have come in, and then in
--- the object's row one property has been replaced by another: all leaves before and after stay. Of the literals and
--- comments those of the old property have been replaced by the literals of the new one. The new document is sound, so it
--- may be edited again.
+-- The property number i of the object at the path has been replaced by one of this name and value: spaces have been inserted, and then in the object's row one
+-- property has been replaced by another: all leaves before and after stay. The value is the old one, but for that entry; of the literals and comments those of the
+-- old property have been replaced by the literals of the new one.
 pub record IsPropertyWritten (o : Options) (path : List ℕ) (i : ℕ) (name : List ℕ) (v : Plain) (was now : Top) (old new : OrderedTree) : Type 0 where
-  pub before : Plain
-  pub after : Plain
   pub spaced : OrderedTree
   pub front : OrderedTree
   pub back : OrderedTree
-  pub old_text : IsDocument o (printed_text old) (Some before)
-  pub new_text : IsDocument o (printed_text new) (Some after)
-  pub replaced : ReplacesMember path i name v before after
   pub spaces : SpacesPut old spaced
   pub changed : PropertyChanged front was.below now.below back path spaced new
   pub around : DiffersIn (leaves_of was) (leaves_of now) (leaves spaced) (leaves new)
-  pub marked : MarksDifferIn (marks_under was) (property_written name v) (marks old) (marks new)
-  pub sound : SoundTree o new
+  pub is : ValueEdited o (ReplacesMember path i name v) (MarksDifferIn (marks_under was) (property_written name v)) old new
 
 -- so it is where a property, element number i of an object at a path of a sound document, has been replaced by one of a name and a value that may be written
 abbrev pub WritesProperty : Options → List Node → List Node → List ℕ → ℕ → ℕ → ℕ → ℕ → List ℕ → Plain → Type 0

@@ -1,14 +1,12 @@
 -- Laws of values that come into arrays: what becomes of the document.
-use Rattle.std.specs.Prelude.{◌≡◌, ℕ, suc, min, true, List, [], ◌∷◌, ◌++◌, length, Some}
+use Rattle.std.specs.Prelude.{◌≡◌, ℕ, suc, min, true, List, [], ◌∷◌, ◌++◌, length}
 use Rattle.jsonc_text.specs.Options.{Options}
 use Rattle.jsonc_text.specs.Plain.{Plain, array, Items, no_items, item}
-use Rattle.jsonc_text.specs.Grammar.{IsDocument}
 use Rattle.jsonc_tree.specs.Content as content
 use Rattle.jsonc_tree.specs.OrderedTree.{OrderedTree, none, more, followed_by, leaves, ordered_tree}
 use Rattle.jsonc_tree.specs.Content.{Content}
 use Rattle.jsonc_tree.specs.Tree.{Node, children_at, content_at, IsTree}
 use Rattle.jsonc_layout.specs.nodes.Siblings.{elements_at}
-use Rattle.jsonc_sound.specs.Shape.{printed_text}
 use Rattle.jsonc_layout.specs.from_input.Laid.{laid}
 use Rattle.jsonc_layout.specs.from_input.Layout.{Layout}
 use Rattle.jsonc_sound.specs.Changes.{Changed}
@@ -20,6 +18,7 @@ use Rattle.jsonc_sound.specs.Rows.{of_values}
 use Rattle.jsonc_sound.specs.SoundTrees.{SoundTree}
 use Rattle.jsonc_sound.specs.TreeChanges.{leaves_of, DocumentChanged}
 use Rattle.jsonc_sound.specs.Written.{written}
+use Rattle.jsonc_sound.specs.Edited.{ValueEdited}
 use Rattle.jsonc_edit.specs.Paths.{IsAt}
 use Rattle.jsonc_edit.specs.Writing.{FitsLayout, IsWritable}
 use Rattle.jsonc_text.specs.declared.edit.EditError.TheVariants.{OutOfMemory}
@@ -64,30 +63,23 @@ pub record InsertsItem (path : List ℕ) (i : ℕ) (v : Plain) (x y : Plain) : T
   pub changed : Changed (array old) (array new) path x y
 
 -- These marks have come in, between those of the front of this row, in which so many elements stand, and those of its rest; and no other mark has changed.
-pub record GainsMarks (ms : List Mark) (i : ℕ) (row t u : OrderedTree) : Type 0 where
+pub record GainsMarks (ms : List Mark) (i : ℕ) (row : OrderedTree) (x y : List Mark) : Type 0 where
   pub front : OrderedTree
   pub back : OrderedTree
   pub parts : row ≡ followed_by front back
   pub count : element_count front ≡ i
   pub before : List Mark
   pub behind : List Mark
-  pub was : marks t ≡ before ++ (marks front ++ (marks back ++ behind))
-  pub is : marks u ≡ before ++ (marks front ++ (ms ++ (marks back ++ behind)))
+  pub was : x ≡ before ++ (marks front ++ (marks back ++ behind))
+  pub is : y ≡ before ++ (marks front ++ (ms ++ (marks back ++ behind)))
 
 -- so in the document one stretch of marks has come in, and all others stay
-abbrev pub MarksComeIn : List Mark → ℕ → OrderedTree → OrderedTree → OrderedTree → Type 0
-MarksComeIn ms i row t u = GainsMarks ms i row t u → MarksDifferIn [] ms (marks t) (marks u)
+abbrev pub MarksComeIn : List Mark → ℕ → OrderedTree → List Mark → List Mark → Type 0
+MarksComeIn ms i row x y = GainsMarks ms i row x y → MarksDifferIn [] ms x y
 
--- The text was a document, and is one again, in which the array at the path has this value more; of its literals and comments the literals of the value have
--- come; and the document is sound.
-pub record IsInserted (o : Options) (path : List ℕ) (i : ℕ) (v : Plain) (t u : OrderedTree) (s : ElementInsertedAt o path i v t u) : Type 0 where
-  pub before : Plain
-  pub after : Plain
-  pub old_text : IsDocument o (printed_text t) (Some before)
-  pub new_text : IsDocument o (printed_text u) (Some after)
-  pub gains : InsertsItem path i v before after
-  pub marks : GainsMarks (written v) (min i (element_count s.row)) s.kept t u
-  pub sound : SoundTree o u
+-- the array at the path has this value more; of the literals and comments the literals of the value are inserted
+abbrev pub IsInserted : (o : Options) (path : List ℕ) (i : ℕ) (v : Plain) (t u : OrderedTree) → ElementInsertedAt o path i v t u → Type 0
+IsInserted o path i v t u s = ValueEdited o (InsertsItem path i v) (GainsMarks (written v) (min i (element_count s.row)) s.kept) t u
 
 -- so it is where the document was sound, and may hold the value
 abbrev pub InsertsElement : {o : Options} {path : List ℕ} {i : ℕ} {v : Plain} {t u : OrderedTree} → ElementInsertedAt o path i v t u → Type 0

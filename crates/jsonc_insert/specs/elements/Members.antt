@@ -1,10 +1,8 @@
 -- Laws of properties that come into objects: what becomes of the document.
-use Rattle.std.specs.Prelude.{◌≡◌, ℕ, suc, min, List, Some}
+use Rattle.std.specs.Prelude.{◌≡◌, ℕ, suc, min, List}
 use Rattle.jsonc_text.specs.Options.{Options}
 use Rattle.jsonc_text.specs.Plain.{Plain, object, Members, no_members, member}
-use Rattle.jsonc_text.specs.Grammar.{IsDocument}
 use Rattle.jsonc_tree.specs.OrderedTree.{OrderedTree, leaves}
-use Rattle.jsonc_sound.specs.Shape.{printed_text}
 use Rattle.jsonc_layout.specs.from_input.Laid.{laid_property}
 use Rattle.jsonc_layout.specs.from_input.Layout.{Layout}
 use Rattle.jsonc_layout.specs.from_input.Texts.{IsCharacters}
@@ -15,6 +13,7 @@ use Rattle.jsonc_sound.specs.Rows.{of_properties}
 use Rattle.jsonc_sound.specs.SoundTrees.{SoundTree}
 use Rattle.jsonc_sound.specs.TreeChanges.{leaves_of, DocumentChanged}
 use Rattle.jsonc_sound.specs.Written.{property_written}
+use Rattle.jsonc_sound.specs.Edited.{ValueEdited}
 use Rattle.jsonc_edit.specs.Writing.{FitsLayout, IsWritable}
 use Rattle.jsonc_edit.specs.multiline.Laws.{bracketed, solid_nodes}
 use Rattle.jsonc_edit.specs.multiline.Reflows.{SpreadsOut}
@@ -53,17 +52,9 @@ pub record InsertsMemberAt (path : List ℕ) (i : ℕ) (name : List ℕ) (v : Pl
   pub comes : MemberInserted name v (min i (member_count old)) old new
   pub changed : Changed (object old) (object new) path x y
 
--- The text was a document, and is one again, in which the object at the path has this property more; of its literals and comments those of the property have
--- come; and the document is sound.
-pub record IsMemberInserted (o : Options) (path : List ℕ) (i : ℕ) (name : List ℕ) (v : Plain) (t u : OrderedTree) (s : PropertyInsertedAt o path i name v t u)
-    : Type 0 where
-  pub before : Plain
-  pub after : Plain
-  pub old_text : IsDocument o (printed_text t) (Some before)
-  pub new_text : IsDocument o (printed_text u) (Some after)
-  pub gains : InsertsMemberAt path i name v before after
-  pub marks : GainsMarks (property_written name v) (min i (element_count s.row)) s.kept t u
-  pub sound : SoundTree o u
+-- the object at the path has this property more; of the literals and comments those of the property are inserted
+abbrev pub IsMemberInserted : (o : Options) (path : List ℕ) (i : ℕ) (name : List ℕ) (v : Plain) (t u : OrderedTree) → PropertyInsertedAt o path i name v t u → Type 0
+IsMemberInserted o path i name v t u s = ValueEdited o (InsertsMemberAt path i name v) (GainsMarks (property_written name v) (min i (element_count s.row)) s.kept) t u
 
 -- so it is where the document was sound, and may hold the name and the value
 abbrev pub InsertsMember : {o : Options} {path : List ℕ} {i : ℕ} {name : List ℕ} {v : Plain} {t u : OrderedTree}

@@ -15,7 +15,7 @@ use Rattle.jsonc_insert.specs.Inserted.{leaves_before, leaves_behind, plan_of, p
 use Rattle.jsonc_insert.specs.Made.{comma_at}
 use Rattle.jsonc_insert.specs.Settings.{layout_inside, outer_indent}
 use Rattle.jsonc_insert.specs.Trimmed.{trimmed}
-use Rattle.jsonc_insert.specs.declared.plan.Plan.{Plan}
+use Rattle.jsonc_insert.specs.Plans.{Plan}
 use Rattle.jsonc_edit.specs.multiline.Slots.{Slot, stays, comes}
 use Rattle.jsonc_insert.specs.members.Opened.{opened}
 use Rattle.jsonc_insert.specs.Worked.{with_row}

@@ -3,18 +3,17 @@ use Rattle.std.specs.Prelude.{◌≡◌, ◌≤◌, ℕ, List, [], ◌∷◌, �
 use Rattle.jsonc_text.specs.Options.{Options}
 use Rattle.jsonc_text.specs.Plain.{Plain, Members}
 use Rattle.jsonc_text.specs.Plain as plain
-use Rattle.jsonc_text.specs.Grammar.{IsDocument}
 use Rattle.jsonc_tree.specs.Content.{object}
 use Rattle.jsonc_tree.specs.OrderedTree.{OrderedTree, ordered_tree}
 use Rattle.jsonc_tree.specs.Tree.{Node, content_at, IsTree}
-use Rattle.jsonc_sound.specs.Shape.{printed_text}
 use Rattle.jsonc_layout.specs.nodes.Names.{FirstInObject}
 use Rattle.jsonc_layout.specs.from_input.Texts.{IsCharacters}
 use Rattle.jsonc_sound.specs.Changes.{Changed}
-use Rattle.jsonc_sound.specs.Marks.{Mark, marks}
+use Rattle.jsonc_sound.specs.Marks.{Mark}
 use Rattle.jsonc_sound.specs.MarkChanges.{MarksDifferIn}
 use Rattle.jsonc_sound.specs.SoundTrees.{SoundTree}
 use Rattle.jsonc_sound.specs.Written.{property_written}
+use Rattle.jsonc_sound.specs.Edited.{ValueEdited, Says}
 use Rattle.jsonc_edit.specs.Paths.{IsAt, IsElementOf}
 use Rattle.jsonc_text.specs.declared.edit.EditError.{EditError}
 use Rattle.jsonc_text.specs.declared.edit.EditError.TheVariants.{OutOfMemory}
@@ -32,10 +31,10 @@ abbrev pub FoundAmong : List Node → ℕ → List ℕ → Option ℕ → Member
 FoundAmong ns c name None ms = LacksMember name ms
 FoundAmong ns c name (Some r) ms = (i : ℕ) × IsElementOf ns c i r × IsFirstMember name i ms
 
--- the text is a document, and in the object at the path it is so
+-- the document has a value, and in the object at the path it is so
 pub record IsFoundAt (o : Options) (ns : List Node) (path : List ℕ) (c : ℕ) (name : List ℕ) (found : Option ℕ) : Type 0 where
   pub value : Plain
-  pub text : IsDocument o (printed_text (ordered_tree ns 0)) (Some value)
+  pub says : Says o (ordered_tree ns 0) (Some value)
   pub members : Members
   pub at : Changed (plain.object members) (plain.object members) path value value
   pub among : FoundAmong ns c name found members
@@ -58,17 +57,10 @@ pub data ChangesMarks (name : List ℕ) (shape : Shape) (x y : List Mark) : Over
   some_leave : (was : List Mark) → MarksDifferIn was [] x y → ChangesMarks name shape x y Replace
   name_comes : {how : Over} → MarksDifferIn [] (property_written name (empty_of shape)) x y → ChangesMarks name shape x y how
 
--- The text was a document, and is one again, in which the first property of the name in the object at the path has a value of the shape, or the other that was
--- to stay; all around stays; and the document is sound.
+-- the first property of the name in the object at the path has a value of the shape, or the other that was to stay; all around stays
 pub record IsNamedWritten (o : Options) (path name : List ℕ) (shape : Shape) (how : Over) (t u : OrderedTree) : Type 0 where
-  pub before : Plain
-  pub after : Plain
-  pub old_text : IsDocument o (printed_text t) (Some before)
-  pub new_text : IsDocument o (printed_text u) (Some after)
-  pub ensures : EnsuresMember path name shape how before after
   pub around : StaysAround o path name shape t u how
-  pub marks : ChangesMarks name shape (marks t) (marks u) how
-  pub sound : SoundTree o u
+  pub is : ValueEdited o (EnsuresMember path name shape how) (λ x y. ChangesMarks name shape x y how) t u
 
 -- so it is in an object at a path of a sound document
 abbrev pub WritesNamed : Options → List Node → List Node → List ℕ → ℕ → List ℕ → Shape → Over → Option ℕ → Type 0

@@ -44,7 +44,7 @@ pub fn inserted_elements_take_their_place()
 /// Where marks have been inserted into a row, they are one new stretch of the document's marks, and all
 /// others stay.
 pub fn marks_come_in()
-    ensures { (ms : List Mark) (i : ℕ) (row t u : OrderedTree) → MarksComeIn ms i row t u }
+    ensures { (ms : List Mark) (i : ℕ) (row : OrderedTree) (x y : List Mark) → MarksComeIn ms i row x y }
 {}
 
 /// An array at a path of a sound document has its brackets, so nothing but allocation failure keeps a value

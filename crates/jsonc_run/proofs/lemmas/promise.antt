@@ -7,6 +7,7 @@ pub mod Reversed
 pub mod Plains
 pub mod MarkLists
 pub mod Stretches
+pub mod Cuts
 pub mod LaidTexts
 pub mod ReplacedTexts
 pub mod StretchElements

@@ -10,15 +10,9 @@ use Rattle.jsonc_run.specs.texts.Stretches.{is_space, HasLine, AreBlanks, InLine
 
 -- Between front and back the comment, one whole comment, comes, with blanks before and behind; all before and all behind stays, to the character. The document says
 -- the same, and of its literals and comments this one alone has come.
-pub record ComesBetween (comment before behind front back : List ℕ) (d e : Document) : Type 0 where
-  pub whole : IsComment comment []
-  pub old_text : d.text ≡ front ++ back
-  pub new_text : e.text ≡ front ++ (before ++ (comment ++ (behind ++ back)))
-  pub blanks_before : AreBlanks before
-  pub blanks_behind : AreBlanks behind
-  pub value : e.value ≡ d.value
-  pub mark : List ℕ
-  pub marks : Come (Mark.comment mark ∷ []) (comment ++ (behind ++ back)) (behind ++ back) d e
+abbrev pub ComesBetween : (comment before behind front back : List ℕ) → Document → Document → Type 0
+ComesBetween comment before behind front back d e = IsComment comment [] × (d.text ≡ front ++ back) × (e.text ≡ front ++ (before ++ (comment ++ (behind ++ back))))
+    × AreBlanks before × AreBlanks behind × (e.value ≡ d.value) × (s : List ℕ) × Come (Mark.comment s ∷ []) (comment ++ (behind ++ back)) (behind ++ back) d e
 
 -- it comes above the entry at the path, before which blanks alone stand from there on, and behind the comment its line ends
 abbrev pub ComesAbove : List ℕ → List ℕ → Document → Document → Type 0

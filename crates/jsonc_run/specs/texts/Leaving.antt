@@ -7,7 +7,7 @@ use Rattle.jsonc_text.specs.Marks.{Mark, comments_of}
 use Rattle.jsonc_run.specs.texts.Paths.{Kind, opening, IsEntry, Value, Entry}
 use Rattle.jsonc_run.specs.texts.Entries.{Named, of, Becomes}
 use Rattle.jsonc_text.specs.Documents.{Document}
-use Rattle.jsonc_run.specs.texts.Stretches.{IsLineEnd, AreBlanks, AreSpaces, is_space, Trivia, InLine, Parted, IsSeam, Text}
+use Rattle.jsonc_run.specs.texts.Stretches.{IsLineEnd, AreBlanks, AreSpaces, is_space, Trivia, InLine, Parted, Text}
 use Rattle.jsonc_run.specs.texts.Entering.{LineEnds, NoCommaComes}
 
 -- past blanks on its line the text goes on with a comment
@@ -48,10 +48,9 @@ EndsBeside s = (t : List ℕ) × (c : ℕ) × (s ≡ t ++ c ∷ []) × IsTrue (i
 -- leave, and no others.
 abbrev pub Leaves : List ℕ → Document → Document → Type 0
 Leaves path d e = (front blanks comma mid lead own trail more back left right : List ℕ) × (with_comma : Bool)
-    × (d.text ≡ front ++ (blanks ++ (comma ++ (mid ++ (lead ++ (own ++ (trail ++ (more ++ back)))))))) × (e.text ≡ front ++ (left ++ (mid ++ (right ++ back))))
+    × Text front (blanks ++ (comma ++ (mid ++ (lead ++ (own ++ (trail ++ more)))))) left mid right back d e × AreBlanks blanks × AreBlanks more
     × Entry path d.options d.text (own ++ (trail ++ (more ++ back))) (trail ++ (more ++ back))
     × InLine lead × (EndsBeside (front ++ (blanks ++ (comma ++ mid))) → ⊥) × Trail (more ++ back) with_comma trail × Comma path d.options d.text lead (own ++ (trail ++ (more ++ back))) (trail ++ (more ++ back)) with_comma comma mid
-    × AreBlanks blanks × AreBlanks more × IsSeam front (mid ++ (right ++ back)) left × IsSeam (front ++ (left ++ mid)) back right
     × (ahead gone behind : List Mark) × Parted d (lead ++ (own ++ (trail ++ (more ++ back)))) back ahead gone behind × (e.marks ≡ ahead ++ behind)
 
 -- of the value the container at the path loses that entry, or none is left

@@ -9,7 +9,6 @@ use Rattle.jsonc_text.specs.Documents.{Document, IsOne}
 use Rattle.jsonc_text.specs.Gaps.{is_blank}
 use Rattle.jsonc_text.specs.Text as many
 use Rattle.jsonc_text.specs.Text.{Many}
-use Rattle.jsonc_text.proofs.UniqueValues.{document_unique}
 use Rattle.jsonc_tree.specs.Changes.{Splices}
 use Rattle.jsonc_tree.specs.Content.{Content}
 use Rattle.jsonc_tree.specs.OrderedTree.{OrderedTree, leaves, ordered_tree}
@@ -127,14 +126,10 @@ module _ (o : Options) (w : Option Plain) (c : ℕ) where
   closes : (old new : List Node) → IsSo old → IsTree new → IsClosedUp old new c → SoundTree o (ordered_tree new 0) × DocumentValueOf o (ordered_tree new 0) w × RemovesBlanks (doc old) (doc new)
   closes old new s later closed =
       let r = comments_gone o old new c [] s.tree later s.sound s.over s.holds (All-nil (λ m. IsTrue (is_comment_at old m))) (none_left closed) in
-      let g = r.2 in
-      let p = document_printed o (ordered_tree new 0) g.sound.shaped g.sound.lines in
-      let q = document_printed o (ordered_tree old 0) s.sound.shaped s.sound.lines in
-      let one : p.0 ≡ g.value = document_unique o (printed_text (ordered_tree new 0)) p.0 g.value p.1 g.new_text in
-      let two : q.0 ≡ g.value = document_unique o (printed_text (ordered_tree old 0)) q.0 g.value q.1 g.old_text in
-      let three : q.0 ≡ w = document_once o (ordered_tree old 0) q.0 w q.2 s.value in
-      let b = blanks_gone o (map (content_at old) r.0) (leaves (ordered_tree old 0)) (leaves (ordered_tree new 0)) (ap (map (content_at old)) (nothing_some r.0 r.1)) g.leaves (document_utf8 o s.sound.shaped) (document_pieces o (document_alone o s.sound.shaped)) in
-      (g.sound, subst (DocumentValueOf o (ordered_tree new 0)) (one ∙ sym two ∙ three) p.2, (b.text, refl, (refl, b.marks)))
+      let g = r.2.1 in
+      let same : g.before ≡ w = document_once o (ordered_tree old 0) g.before w g.old.value s.value in
+      let b = blanks_gone o (map (content_at old) r.0) (leaves (ordered_tree old 0)) (leaves (ordered_tree new 0)) (ap (map (content_at old)) (nothing_some r.0 r.1)) r.2.0 (document_utf8 o s.sound.shaped) (document_pieces o (document_alone o s.sound.shaped)) in
+      (g.new.sound, subst (DocumentValueOf o (ordered_tree new 0)) (g.value ∙ same) g.new.value, (b.text, refl, (refl, b.marks)))
 
   -- it is so still where one is removed, or stays
   still_so : (old mid : List Node) (n : ℕ) → IsSo old → IsTree mid → Outcome o old mid c (content_at old n) → SoundTree o (ordered_tree mid 0) × DocumentValueOf o (ordered_tree mid 0) w

@@ -4,7 +4,6 @@ use Rattle.std.specs.List.{flat_map, All}
 use Rattle.std.proofs.lemmas.Bool.{cases_Bool, cases_eq}
 use Rattle.std.proofs.lemmas.List.Elements.{All-cons, All-head, All-nil, All-tail}
 use Rattle.jsonc_text.specs.Options.{Options, AllowsMore}
-use Rattle.jsonc_text.specs.Grammar.{IsDocument}
 use Rattle.jsonc_text.proofs.UniqueValues.{document_unique}
 use Rattle.jsonc_text.proofs.WiderOptions.{document_wider}
 use Rattle.jsonc_tree.specs.OrderedTree.{OrderedTree, ordered_tree}
@@ -34,6 +33,7 @@ use Rattle.jsonc_edit.proofs.lemmas.commas.RemovedComma.{comma_taken}
 use Rattle.jsonc_edit.proofs.lemmas.commas.OtherRows.{other_row, set_same}
 use Rattle.jsonc_edit.proofs.lemmas.commas.WiderShapes.{as_allowed, sound_wider, with_trailing}
 use Rattle.jsonc_edit.proofs.lemmas.commas.WithoutCommas.{document_without, only_same, only_then, only_without, without_commas}
+use Rattle.jsonc_edit.proofs.SoundValues.{says}
 
 -- nothing has changed
 no_step : (mode : TrailingCommaMode) (o : Options) (old new : List Node) → SoundTree o (ordered_tree old 0) → new ≡ old → Step mode o (ordered_tree old 0) (ordered_tree new 0)
@@ -161,20 +161,13 @@ allowed IfMultiline o = refl
 says_the_same : (mode : TrailingCommaMode) (o : Options) (t u : OrderedTree) → SoundTree o t → Step mode (allowing mode o) t u → SaysTheSame mode o t u
 says_the_same mode o t u s step =
     let p : Options = allowing mode o in
-    let was = document_printed o t s.shaped s.lines in
+    let was = says o t s in
     let later = sound_wider (wider mode o) t s in
     let old = document_printed p t later.shaped later.lines in
-    let is = document_printed p u step.sound.shaped step.sound.lines in
-    let one : old.0 ≡ was.0 = document_unique p (printed_text t) old.0 was.0 old.1 (document_wider (printed_text t) was.0 (wider mode o) was.1) in
-    let same : is.0 ≡ old.0 = document_once p (without_commas t) is.0 old.0 (subst (λ x. DocumentValueOf p x is.0) (only_without mode t u step.commas) (document_without p is.0 u is.2)) (document_without p old.0 t old.2) in
-    record {
-      value = was.0;
-      old_text = was.1;
-      new_text = subst (λ w. IsDocument p (printed_text u) w) (same ∙ one) is.1;
-      marks = step.marks;
-      commas = step.commas;
-      sound = step.sound;
-    }
+    let is = says p u step.sound in
+    let one : old.0 ≡ was.0 = document_unique p (printed_text t) old.0 was.0 old.1 (document_wider (printed_text t) was.0 (wider mode o) was.1.text) in
+    let same : is.0 ≡ old.0 = document_once p (without_commas t) is.0 old.0 (subst (λ x. DocumentValueOf p x is.0) (only_without mode t u step.commas) (document_without p is.0 u is.1.value)) (document_without p old.0 t old.2) in
+    record { is = record { before = was.0; after = is.0; old = was.1; new = is.1; value = same ∙ one; marks = step.marks }; commas = step.commas }
 
 module _ (mode : TrailingCommaMode) (o : Options) (old : List Node) (c : ℕ) (is : IsInSound o old c) where
   abbrev p : Options

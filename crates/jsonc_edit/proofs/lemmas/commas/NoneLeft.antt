@@ -56,7 +56,7 @@ LacksComma ns n = comma_gone ns n ≡ None
 pub leaves_none : (o : Options) (old : List Node) (c : ℕ) (new : List Node) → IsInSound o old c → IsTrue (holds_at old c) → AreSetInTurn Never old (holders old c) new → ValueAlone (without_trailing o) (content_at new c) (row_below new c)
 leaves_none o old c new is holds set =
     let s : Stays new c = stays Never c (holders old c) old new (record { tree = is.tree; over = is.over; holds = holds }) set in
-    let sound : SoundTree o (ordered_tree new 0) = (keeps_document Never o old c is new set).sound in
+    let sound : SoundTree o (ordered_tree new 0) = (keeps_document Never o old c is new set).is.new.sound in
     let place = holder_path o new s.tree sound c s.over s.holds in
     value_without o new s.tree c (over_there new s.tree c s.over) (each_holder o new s.tree sound c s.over (LacksComma new) (sets_all Never o old c is new set)) (value_at_path o new s.tree sound place.0 c place.1)
 
@@ -68,7 +68,7 @@ root_is ns row e = cc
 pub leaves_none_anywhere : (o : Options) (old new : List Node) → IsInSound o old 0 → AreSetInTurn Never old (holders old 0) new → SoundTree (without_trailing o) (ordered_tree new 0)
 leaves_none_anywhere o old new is set =
     let tree : IsTree new = tree_now Never (holders old 0) old new is.tree set in
-    let sound : SoundTree o (ordered_tree new 0) = (keeps_document Never o old 0 is new set).sound in
+    let sound : SoundTree o (ordered_tree new 0) = (keeps_document Never o old 0 is new set).is.new.sound in
     let (row, same, alone) = document_alone o sound.shaped in
     let under : row_below new 0 ≡ row = root_is new row same in
     let all = each_holder o new tree sound 0 IsOver.itself (LacksComma new) (sets_all Never o old 0 is new set) in

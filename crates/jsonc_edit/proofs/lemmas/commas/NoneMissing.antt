@@ -138,7 +138,7 @@ pub leaves_all : (o : Options) (old : List Node) (c : ℕ) (new : List Node) →
     → IsTrue (is_full (content_at new c) (row_below new c))
 leaves_all o old c new is which set =
     let tree : IsTree new = tree_now IfMultiline (holders old c) old new is.tree set in
-    let sound : SoundTree (allowing IfMultiline o) (ordered_tree new 0) = (keeps_document IfMultiline o old c is new set).sound in
+    let sound : SoundTree (allowing IfMultiline o) (ordered_tree new 0) = (keeps_document IfMultiline o old c is new set).is.new.sound in
     let over : IsOver new 0 c = at which in
     full new tree c (over_there new tree c over) (each_holder (allowing IfMultiline o) new tree sound c over (WantsNone new) (sets_all IfMultiline o old c is new set))
   where

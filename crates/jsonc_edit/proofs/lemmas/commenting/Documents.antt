@@ -3,7 +3,6 @@ use Rattle.std.proofs.Common.{◌≡◌, ◌∙◌, ℕ, ◌+◌, ◌<◌, Bool,
 use Rattle.std.proofs.lemmas.List.{append_assoc}
 use Rattle.jsonc_text.specs.Options.{Options}
 use Rattle.jsonc_text.specs.Gaps.{IsComment}
-use Rattle.jsonc_text.specs.Grammar.{IsDocument}
 use Rattle.jsonc_tree.specs.Content.{Content, comment, newline, whitespace}
 use Rattle.jsonc_tree.specs.OrderedTree.{OrderedTree, leaves, ordered_tree, own_leaf, Shows}
 use Rattle.jsonc_tree.specs.Tree.{Node, content_at, children_at, parent_at, place_at, IsOver, IsTree}
@@ -14,12 +13,11 @@ use Rattle.jsonc_layout.specs.lines.Breadth.{newline_kind_at}
 use Rattle.jsonc_sound.specs.ChangeLaws.{DiffersIn}
 use Rattle.jsonc_sound.specs.MarkChanges.{MarksDifferIn}
 use Rattle.jsonc_sound.specs.Marks.{comment_mark, marks_of}
-use Rattle.jsonc_sound.specs.Shape.{printed_text, IsText}
+use Rattle.jsonc_sound.specs.Shape.{IsText}
 use Rattle.jsonc_sound.specs.SoundTrees.{SoundTree}
 use Rattle.jsonc_sound.specs.TreeChanges.{leaves_of}
 use Rattle.jsonc_sound.specs.TriviaChanges.{AreTrivia}
 use Rattle.jsonc_sound.proofs.ReplacedStretches.{marks_differ}
-use Rattle.jsonc_sound.proofs.ShapeValues.{document_printed}
 use Rattle.jsonc_edit.specs.Changes.{top_at}
 use Rattle.jsonc_edit.specs.Put.{a_space}
 use Rattle.jsonc_edit.specs.Seams.{StandsBetween}
@@ -29,8 +27,8 @@ use Rattle.jsonc_edit.specs.commenting.Come.{LeavesCome}
 use Rattle.jsonc_edit.specs.commenting.Laws.{GainsAbove, GainsBehind, GainsComment, InsertsAbove, InsertsBehind, IsCommentInserted, IsEntry, StandsAbove, StandsBehind}
 use Rattle.jsonc_edit.proofs.LayoutTold.{Each, each_around}
 use Rattle.jsonc_edit.proofs.LeavesAroundNodes.{within, Within}
-use Rattle.jsonc_edit.proofs.OneValue.{document_once}
 use Rattle.jsonc_edit.proofs.SeamsAround.{holds_children}
+use Rattle.jsonc_edit.proofs.SoundValues.{value_kept}
 use Rattle.jsonc_edit.proofs.lemmas.commenting.Above.{at_line, at_seam}
 use Rattle.jsonc_edit.proofs.lemmas.commenting.Behind.{comes_behind}
 use Rattle.jsonc_edit.proofs.lemmas.commenting.Blanks.{end_child}
@@ -61,16 +59,8 @@ module _ (old new : List Node) (tree : IsTree old) (text : List ℕ) (c place : 
 
   inserted : (o : Options) → SoundTree o (ordered_tree old 0) → Arrival o contents (ordered_tree old 0) (ordered_tree new 0) → IsCommentInserted o text (ordered_tree old 0) (ordered_tree new 0)
   inserted o sound arrived =
-      let was = document_printed o (ordered_tree old 0) sound.shaped sound.lines in
-      let now = document_printed o (ordered_tree new 0) arrived.sound.shaped arrived.sound.lines in
-      let same : now.0 ≡ was.0 = document_once o (ordered_tree new 0) now.0 was.0 now.2 (arrived.value was.0 was.2) in
-      record {
-        value = was.0;
-        old_text = was.1;
-        new_text = subst (IsDocument o (printed_text (ordered_tree new 0))) same now.1;
-        marked = subst (λ ms. MarksDifferIn [] ms (marks_of (leaves (ordered_tree old 0))) (marks_of (leaves (ordered_tree new 0)))) a.mark (marks_differ [] contents (leaves (ordered_tree old 0)) (leaves (ordered_tree new 0)) around);
-        sound = arrived.sound;
-      }
+      value_kept (MarksDifferIn [] (comment_mark (chars text) ∷ [])) o o sound arrived.sound arrived.value
+      (subst (λ ms. MarksDifferIn [] ms (marks_of (leaves (ordered_tree old 0))) (marks_of (leaves (ordered_tree new 0)))) a.mark (marks_differ [] contents (leaves (ordered_tree old 0)) (leaves (ordered_tree new 0)) around))
 
 module _ (old new : List Node) (n : ℕ) (text : List ℕ) (tree : IsTree old) where
   -- a child's container is in the document with it

@@ -1,15 +1,13 @@
 -- A sound document in which an array or object has been spread out says the same.
 use Rattle.std.proofs.Common.{◌≡◌, ◌∙◌, ℕ, false, ◌||◌, List, ◌∷◌, ◌++◌, Option, Some, None, IsTrue, refl, sym, ap, subst, if◌then◌else◌}
 use Rattle.jsonc_text.specs.Options.{Options}
-use Rattle.jsonc_text.specs.Grammar.{IsDocument}
 use Rattle.jsonc_text.specs.Plain.{Plain, Items, item, Members, member}
 use Rattle.jsonc_tree.specs.Content.{Content}
 use Rattle.jsonc_tree.specs.OrderedTree.{OrderedTree, Top, none, more, followed_by}
 use Rattle.jsonc_tree.specs.Values as values
 use Rattle.jsonc_tree.specs.Values.{DocumentValueOf}
 use Rattle.jsonc_layout.specs.nodes.Kinds.{is_newline, is_whitespace}
-use Rattle.jsonc_sound.specs.Shape.{printed_text, token_then}
-use Rattle.jsonc_sound.proofs.ShapeValues.{document_printed}
+use Rattle.jsonc_sound.specs.Shape.{token_then}
 use Rattle.jsonc_sound.specs.Changes as changes
 use Rattle.jsonc_sound.specs.Changes.{ItemChanged, MemberChanged, Changed}
 use Rattle.jsonc_sound.specs.Marks.{marks}
@@ -19,14 +17,14 @@ use Rattle.jsonc_sound.specs.Rows.{RowKind, closing}
 use Rattle.jsonc_sound.specs.Sound.{HasValue}
 use Rattle.jsonc_sound.specs.SoundTrees.{SoundTree}
 use Rattle.jsonc_sound.specs.TreeChanges.{DocumentChanged}
+use Rattle.jsonc_sound.specs.Edited.{ValueKept}
 use Rattle.jsonc_sound.proofs.AtPath.{held_at_path}
 use Rattle.jsonc_sound.proofs.ReplacedStretches.{values_marks}
 use Rattle.jsonc_sound.proofs.LeavesAround.{document_differs}
-use Rattle.jsonc_edit.proofs.OneValue.{document_once}
-use Rattle.jsonc_edit.specs.multiline.Laws.{bracketed, solid_nodes, SpreadAt, SaysTheSame, KeepsDocument, KeepsLeavesOutside, KeepsNodesInside}
+use Rattle.jsonc_edit.specs.multiline.Laws.{bracketed, solid_nodes, SpreadAt, KeepsDocument, KeepsLeavesOutside, KeepsNodesInside}
 use Rattle.jsonc_edit.specs.multiline.Reflows.{starts_line, Reflows, ended, kept, gone, line, line_end, SpreadsOut, stays, reflows}
 use Rattle.jsonc_edit.proofs.lemmas.multiline.Reflow.{items_reflow, members_reflow, marks_reflow, lines_reflow, stretch_reflow, leaves_reflow}
-use Rattle.jsonc_edit.proofs.SoundValues.{some_value}
+use Rattle.jsonc_edit.proofs.SoundValues.{some_value, value_kept}
 use Rattle.jsonc_edit.proofs.lemmas.multiline.SoundRows.{row_in_document, sound_with_row, IsRow}
 use Rattle.jsonc_edit.proofs.lemmas.commas.Steps.{under_bracket}
 
@@ -103,18 +101,8 @@ module _ (o : Options) (kind : RowKind) (row new : OrderedTree) (r : Reflows row
         let same : marks_under (bracketed kind new) ≡ marks_under (bracketed kind row) = under_bracket kind (followed_by new bracket) ∙ marks_reflow o (reflows_then bracket r) ∙ sym (under_bracket kind (followed_by row bracket)) in
         d.after ∙ ap (λ ms. d.front ++ (ms ++ d.back)) same ∙ sym d.before
 
-    says_the_same : SoundTree o t → SaysTheSame o t u
-    says_the_same s =
-        let still : SoundTree o u = sound_with_row o kind row new path t u changed s (reflowed_row (row_in_document o kind row s changed)) in
-        let was = document_printed o t s.shaped s.lines in
-        let is = document_printed o u still.shaped still.lines in
-        record {
-          value = was.0;
-          old_text = was.1;
-          new_text = subst (λ w. IsDocument o (printed_text u) w) (document_once o u is.0 was.0 is.2 (any_value was.0 was.2)) is.1;
-          marks = same_marks;
-          sound = still;
-        }
+    says_the_same : SoundTree o t → ValueKept o o (λ x y. y ≡ x) t u
+    says_the_same s = value_kept (λ x y. y ≡ x) o o s (sound_with_row o kind row new path t u changed s (reflowed_row (row_in_document o kind row s changed))) any_value same_marks
 
 pub keeps_document : (o : Options) (t u : OrderedTree) (path : List ℕ) → KeepsDocument o t u path
 keeps_document o t u path s at = says_the_same o at.kind at.row at.new (all_reflows at.spreads) t u path at.changed s

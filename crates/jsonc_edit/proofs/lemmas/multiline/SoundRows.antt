@@ -1,15 +1,12 @@
 -- The row between the brackets of an array or object of a sound document, and a document that has another that may stand there.
 use Rattle.std.proofs.Common.{◌≡◌, ℕ, Bool, true, false, ◌&&◌, List, Option, Some, None, IsTrue, refl, subst, if◌then◌else◌}
 use Rattle.jsonc_text.specs.Options.{Options}
-use Rattle.jsonc_text.specs.Grammar.{IsDocument}
-use Rattle.jsonc_text.specs.Plain.{Plain}
 use Rattle.jsonc_text.specs.Text.{next, starts}
 use Rattle.jsonc_tree.specs.Content.{token}
 use Rattle.jsonc_tree.specs.OrderedTree.{OrderedTree, Top, none, followed_by, leaves}
-use Rattle.jsonc_tree.specs.Values.{DocumentValueOf}
 use Rattle.jsonc_tree.proofs.OrderedTrees.{leaves-followed_by}
 use Rattle.jsonc_sound.specs.Lines.{LinesEndLoosely}
-use Rattle.jsonc_sound.specs.Shape.{printed_text, token_then}
+use Rattle.jsonc_sound.specs.Shape.{token_then}
 use Rattle.jsonc_sound.specs.Adjacent.{first_char, follower, LeavesEnd, last_printed}
 use Rattle.jsonc_sound.specs.Alone.{RowAlone, StretchAlone, may_come}
 use Rattle.jsonc_sound.specs.Rows as rows
@@ -25,11 +22,8 @@ use Rattle.jsonc_sound.proofs.LooseChanges.{joined_loosely, parted_loosely}
 use Rattle.jsonc_sound.proofs.RowParts.{row_comes}
 use Rattle.jsonc_sound.proofs.SeamRows.{container_leaves, row_of}
 use Rattle.jsonc_sound.proofs.SeamStretches.{parted_row}
-use Rattle.jsonc_sound.proofs.ShapeValues.{document_printed}
 use Rattle.jsonc_sound.proofs.SoundTrees.{kept_where_none_meet}
 use Rattle.jsonc_sound.proofs.Spaces.{last_of, serves_unless, stretch_no_word}
-use Rattle.jsonc_edit.proofs.OneValue.{document_once}
-use Rattle.jsonc_edit.proofs.SoundValues.{some_value}
 use Rattle.jsonc_edit.specs.multiline.Laws.{bracketed}
 
 -- what stands between the brackets of a sound array or object
@@ -83,27 +77,3 @@ module _ (o : Options) (kind : RowKind) where
         may_come_here : (k : RowKind) (last : rows.Last) → IsTrue (rows.may_end o last) → IsTrue (may_come o last (token_then (closing k) none))
         may_come_here of_values last h = h
         may_come_here of_properties last h = h
-
-    -- both texts are documents
-    pub record Texts (R : Plain → Plain → Type 0) : Type 0 where
-      pub before : Plain
-      pub after : Plain
-      pub old_text : IsDocument o (printed_text t) (Some before)
-      pub new_text : IsDocument o (printed_text u) (Some after)
-      pub related : R before after
-
-    pub texts : (R : Plain → Plain → Type 0) → SoundTree o t → SoundTree o u → ((x : Plain) → DocumentValueOf o t (Some x) → (y : Plain) × DocumentValueOf o u (Some y) × R x y) → Texts R
-    texts R sound still f = let was = document_printed o t sound.shaped sound.lines in by was.0 was.1 was.2
-      where
-        by : (w : Option Plain) → IsDocument o (printed_text t) w → DocumentValueOf o t w → Texts R
-        by None text h = absurd (some_value o changed h)
-        by (Some x) text h =
-            let is = document_printed o u still.shaped still.lines in
-            let y = f x h in
-            record {
-              before = x;
-              after = y.0;
-              old_text = text;
-              new_text = subst (λ w. IsDocument o (printed_text u) w) (document_once o u is.0 (Some y.0) is.2 y.1) is.1;
-              related = y.2;
-            }

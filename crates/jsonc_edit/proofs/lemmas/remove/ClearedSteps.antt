@@ -240,7 +240,7 @@ module _ (o : Options) (old new : List Node) (tree : IsTree old) (after : IsTree
           blank_before = are_gone_blanks old new n as_removed;
           blank_behind = tt;
           left = record {
-            sound = now.sound;
+            sound = now.new.sound;
             value = λ w h. taken_value old new n with_taken o w h;
             leaves = subst (λ l. DiffersIn l [] (leaves (ordered_tree old 0)) (leaves (ordered_tree new 0))) are apart;
           };

@@ -6,7 +6,6 @@ use Rattle.std.proofs.lemmas.List.Elements.{All-head, All-tail, All-weaker}
 use Rattle.std.specs.List.{All}
 use Rattle.jsonc_text.specs.Options.{Options}
 use Rattle.jsonc_text.specs.Plain.{Plain}
-use Rattle.jsonc_text.specs.Grammar.{IsDocument}
 use Rattle.jsonc_tree.specs.Changes.{Splices}
 use Rattle.jsonc_tree.specs.Content.{Content, is_container}
 use Rattle.jsonc_tree.specs.OrderedTree.{leaves, ordered_tree}
@@ -16,9 +15,7 @@ use Rattle.jsonc_tree.specs.Values.{DocumentValueOf}
 use Rattle.jsonc_layout.specs.lines.Kinds.{is_array_or_object}
 use Rattle.jsonc_layout.specs.nodes.Kinds.{is_blank_at, is_comment, is_comment_at, is_token}
 use Rattle.jsonc_sound.specs.MarkChanges.{AreBlanks}
-use Rattle.jsonc_sound.specs.Shape.{printed_text}
 use Rattle.jsonc_sound.specs.SoundTrees.{SoundTree}
-use Rattle.jsonc_sound.proofs.ShapeValues.{document_printed}
 use Rattle.jsonc_sound.proofs.Entries.{blanks_trivia}
 use Rattle.jsonc_edit.specs.remove.CommentLaws.{AreSomeOf, ClearsComments, LoseComments, blanks_lost, comment_lost, no_more, none_lost, one_of_them, passed_over}
 use Rattle.jsonc_edit.specs.remove.Comments.{AreCleared, none_left, not_there, one_cleared}
@@ -26,7 +23,6 @@ use Rattle.jsonc_edit.specs.remove.Leaving.{comes_to}
 use Rattle.jsonc_edit.specs.remove.Removed.{comes_to_last, hollow_from, hollow_to, is_hollow, IsClosedUp}
 use Rattle.jsonc_edit.specs.Changes.{row_below}
 use Rattle.jsonc_edit.proofs.FittingNodes.{over_there}
-use Rattle.jsonc_edit.proofs.OneValue.{document_once}
 use Rattle.jsonc_edit.proofs.lemmas.commas.Holders.{holder_path, Held}
 use Rattle.jsonc_edit.proofs.lemmas.remove.ClearedStretches.{left_same, left_sound, LeftSound}
 use Rattle.jsonc_edit.proofs.lemmas.remove.ClearedSteps.{has_left, has_stayed, outcome, over_kept, Outcome}
@@ -35,6 +31,7 @@ use Rattle.jsonc_edit.proofs.lemmas.remove.PartedTrivia.{token_parts}
 use Rattle.jsonc_edit.proofs.lemmas.remove.RemovedChildren.{others_before, Others}
 use Rattle.jsonc_edit.proofs.Lists.{contents_same}
 use Rattle.jsonc_edit.proofs.lemmas.remove.Trees.{hollow_row}
+use Rattle.jsonc_edit.proofs.SoundValues.{value_kept}
 
 comes_blanks : (ns : List Node) (inner : List ℕ) (last : ℕ) → Others last inner → IsTrue (comes_to ns (Some last) (inner ++ last ∷ [])) → AreBlanks (map (content_at ns) inner)
 comes_blanks ns [] last h e = tt
@@ -164,16 +161,4 @@ module _ (o : Options) (c : ℕ) where
 pub comments_gone : (o : Options) (old new : List Node) (c : ℕ) (ns : List ℕ) → ClearsComments o old new c ns
 comments_gone o old new c ns tree after sound over holds all cleared =
     let r = clears o c old new ns tree after sound over holds all cleared in
-    let was = document_printed o (ordered_tree old 0) sound.shaped sound.lines in
-    let now = document_printed o (ordered_tree new 0) r.2.sound.shaped r.2.sound.lines in
-    let same : now.0 ≡ was.0 = document_once o (ordered_tree new 0) now.0 was.0 now.2 (r.2.value was.0 was.2) in (
-      r.0,
-      r.1,
-      record {
-        value = was.0;
-        old_text = was.1;
-        new_text = subst (IsDocument o (printed_text (ordered_tree new 0))) same now.1;
-        leaves = r.2.lost;
-        sound = r.2.sound;
-      },
-    )
+    (r.0, r.1, (r.2.lost, value_kept (λ x y. Unit {0}) o o sound r.2.sound r.2.value tt))

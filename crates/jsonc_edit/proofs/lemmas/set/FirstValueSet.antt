@@ -1,20 +1,18 @@
 -- What a document is once a first value has come, or all has left it.
-use Rattle.std.proofs.Common.{◌≡◌, ℕ, List, [], Option, Some, None, refl, sym, ap, subst, ◌∙◌}
+use Rattle.std.proofs.Common.{◌≡◌, ℕ, List, [], Some, None, refl, sym, ap, subst, ◌∙◌}
 use Rattle.std.proofs.lemmas.Bool.{cond_both}
 use Rattle.jsonc_text.specs.Options.{Options}
 use Rattle.jsonc_text.specs.Plain.{Plain}
-use Rattle.jsonc_text.specs.Grammar.{IsDocument}
 use Rattle.jsonc_tree.specs.OrderedTree.{OrderedTree, none, Shows, shows_none, ordered_tree}
 use Rattle.jsonc_tree.specs.Tree.{Node, content_at, children_at, IsTree, IsOver}
 use Rattle.jsonc_tree.specs.Values as values
 use Rattle.jsonc_tree.specs.Values.{DocumentValueOf}
-use Rattle.jsonc_sound.specs.Shape.{DocumentShaped, printed_text}
+use Rattle.jsonc_sound.specs.Shape.{DocumentShaped}
 use Rattle.jsonc_layout.specs.nodes.Kinds.{is_property}
 use Rattle.jsonc_tree.specs.OrderedTree.{Top}
 use Rattle.jsonc_sound.specs.TreeChanges.{IsElement}
 use Rattle.jsonc_sound.specs.Alone as alone
 use Rattle.jsonc_sound.specs.SoundTrees.{SoundTree}
-use Rattle.jsonc_sound.proofs.ShapeValues.{document_printed}
 use Rattle.jsonc_sound.specs.Marks.{marks}
 use Rattle.jsonc_sound.specs.MarkChanges.{MarksDifferIn, marks_under}
 use Rattle.jsonc_sound.specs.Coming.{ValueInserted}
@@ -28,23 +26,13 @@ use Rattle.jsonc_edit.specs.Writing.{FitsLayout}
 use Rattle.jsonc_edit.proofs.FittingCommas.{commas_fit}
 use Rattle.jsonc_edit.proofs.FittingIndents.{indents_fit}
 use Rattle.jsonc_edit.proofs.ReplacedChildren.{laid_element}
-use Rattle.jsonc_edit.proofs.OneValue.{document_once}
+use Rattle.jsonc_edit.proofs.SoundValues.{says_so}
 use Rattle.jsonc_edit.proofs.ChangesUpward.{Shows-row_below, document_is}
 use Rattle.jsonc_edit.proofs.Writable.{value_may_stand}
-use Rattle.jsonc_edit.specs.set.Laws.{Means, GivesFirstValue, LeavesBareDocument}
+use Rattle.jsonc_edit.specs.set.Laws.{GivesFirstValue, LeavesBareDocument}
 use Rattle.jsonc_edit.proofs.lemmas.set.FirstValueRows.{comes_among_rows}
 
 module _ (o : Options) where
-  -- a sound document prints what it has
-  means : (t : OrderedTree) (w : Option Plain) → SoundTree o t → DocumentValueOf o t w → Means o t w
-  means t w s value =
-      let known = document_printed o t s.shaped s.lines in
-      record {
-        text = subst (IsDocument o (printed_text t)) (document_once o t known.0 w known.2 value) known.1;
-        value = value;
-        sound = s;
-      }
-
   root_is : (ns : List Node) → IsTree ns → root_with (row_below ns 0) ≡ ordered_tree ns 0
   root_is ns tree = document_is ns tree (row_below ns 0) (Shows-row_below ns tree 0 tree.first)
 
@@ -68,9 +56,12 @@ module _ (o : Options) where
       let values = has_first o top v row next whole.value element comes in
       let sound : SoundTree o (root_with next) = sound_with_first o top v row next (subst (SoundTree o) (sym was) s) whole element comes in
       record {
-        before = means (ordered_tree old 0) None s (subst (λ t. DocumentValueOf o t None) was values.0);
-        after = means (ordered_tree new 0) (Some v) (subst (SoundTree o) is sound) (subst (λ t. DocumentValueOf o t (Some v)) is values.1);
-        marked = subst (λ t. MarksDifferIn [] (marks_under top) (marks t) (marks (ordered_tree new 0))) was
+        before = tt;
+        after = tt;
+        old = says_so o (ordered_tree old 0) None s (subst (λ t. DocumentValueOf o t None) was values.0);
+        new = says_so o (ordered_tree new 0) (Some v) (subst (SoundTree o) is sound) (subst (λ t. DocumentValueOf o t (Some v)) is values.1);
+        value = tt;
+        marks = subst (λ t. MarksDifferIn [] (marks_under top) (marks t) (marks (ordered_tree new 0))) was
             (subst (λ t. MarksDifferIn [] (marks_under top) (marks (root_with row)) (marks t)) is (marks_with_first top row next comes));
       }
 
@@ -82,6 +73,6 @@ module _ (o : Options) where
       let is = bare_is new tree e in
       let sound : SoundTree o (root_with none) = root_sound o none alone.root_ends tt tt in
       record {
-        means = means (ordered_tree new 0) None (subst (SoundTree o) is sound) (subst (λ t. DocumentValueOf o t None) is (none, refl, values.end));
+        means = says_so o (ordered_tree new 0) None (subst (SoundTree o) is sound) (subst (λ t. DocumentValueOf o t None) is (none, refl, values.end));
         unmarked = sym (ap marks is) ∙ root_marks none;
       }

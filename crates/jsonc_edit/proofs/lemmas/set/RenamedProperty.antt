@@ -10,6 +10,7 @@ use Rattle.jsonc_tree.specs.Changes.{CanJoin, Splices}
 use Rattle.jsonc_tree.specs.Content.{Content, object, property}
 use Rattle.jsonc_tree.specs.OrderedTree.{OrderedTree, none, more, leaves, followed_by, Shows, shows_none, shows_more, ordered_tree, Replaced, Top}
 use Rattle.jsonc_tree.specs.Tree.{Node, content_at, parent_at, children_at, place_at, IsTree, IsOver}
+use Rattle.jsonc_tree.specs.Values.{DocumentValueOf}
 use Rattle.jsonc_tree.proofs.Order.{parent_there}
 use Rattle.jsonc_tree.proofs.OrderedTrees.{Shows-unique, leaves-followed_by}
 use Rattle.jsonc_tree.proofs.SplicedTrees.{Replaced-splice}
@@ -21,7 +22,7 @@ use Rattle.jsonc_sound.specs.ChangeLaws.{DiffersIn}
 use Rattle.jsonc_sound.specs.InRows.{row_around}
 use Rattle.jsonc_sound.specs.Leaving.{element_count}
 use Rattle.jsonc_sound.specs.MarkChanges.{MarksDifferIn, marks_under}
-use Rattle.jsonc_sound.specs.Marks.{marks}
+use Rattle.jsonc_sound.specs.Marks.{marks, Mark}
 use Rattle.jsonc_sound.specs.Properties.{among_properties, object_of, PropertyChanged}
 use Rattle.jsonc_sound.specs.Rows as rows
 use Rattle.jsonc_sound.specs.Alone.{RowAlone}
@@ -34,23 +35,23 @@ use Rattle.jsonc_sound.proofs.NodesAlone.{value_alone}
 use Rattle.jsonc_sound.proofs.ReplacedStretches.{marks_differ}
 use Rattle.jsonc_sound.proofs.RowsWithin.{both_within, leaves_within}
 use Rattle.jsonc_sound.proofs.SeamStretches.{parted_row}
-use Rattle.jsonc_sound.proofs.ShapeValues.{document_printed}
 use Rattle.jsonc_edit.specs.Changes.{row_below, top_at, Respliced}
 use Rattle.jsonc_edit.specs.Paths.{IsAt, IsElementOf}
 use Rattle.jsonc_edit.specs.Reading.{layout_for}
 use Rattle.jsonc_edit.specs.Replacing.{ReplacedByRaw}
 use Rattle.jsonc_edit.specs.set.Names.{IsRenamed, IsNameWritten, RenamesMember, WritesName, StaysAroundName, IsMarkedForName}
+use Rattle.jsonc_edit.specs.Spaced.{none_put}
 use Rattle.jsonc_edit.proofs.ChangesUpward.{Shows-row_below, RowChanged, row_above}
 use Rattle.jsonc_edit.proofs.Elements.{Some_same, stands_at}
 use Rattle.jsonc_edit.proofs.NodesKept.{at_kept, filter_same, place_kept, row_kept, top_stays, tree_stays}
 use Rattle.jsonc_edit.proofs.PathsKept.{at_over}
 use Rattle.jsonc_edit.proofs.ShapedProperties.{Parts, firsts, name_is_name}
 use Rattle.jsonc_edit.proofs.Splices.{respliced_over, respliced_row, spliced_in}
-use Rattle.jsonc_edit.proofs.Uniqueness.{element_parent}
+use Rattle.jsonc_edit.proofs.Uniqueness.{element_parent, over_at}
 use Rattle.jsonc_edit.proofs.lemmas.set.PropertyRows.{Parted, parted, ObjectRow, object_row, Inside, inside_of, property_here}
 use Rattle.jsonc_edit.proofs.lemmas.set.Renaming.{named_child}
 use Rattle.jsonc_edit.proofs.lemmas.set.RenamedTrees.{Around, element_around, property_there, NameFirst, name_first, sound_renamed, value_renamed}
-use Rattle.jsonc_edit.proofs.SoundValues.{some_value_of, prints_value}
+use Rattle.jsonc_edit.proofs.SoundValues.{value_edited}
 
 -- leaves around a node, in a row and then around that
 around_node : (f x y z b : List Content) → f ++ ((x ++ (y ++ z)) ++ b) ≡ (f ++ x) ++ (y ++ (z ++ b))
@@ -304,23 +305,17 @@ module _ (old new : List Node) (p m : ℕ) (name : List ℕ) (tree : IsTree old)
     name_written =
         let t : OrderedTree = ordered_tree old 0 in
         let u : OrderedTree = ordered_tree new 0 in
-        let known = document_printed o t sound.shaped sound.lines in
-        let before = some_value_of o changed known.0 known.2 in
-        let now = value_renamed o t u front first.rest back first.name name path first.named texts sound changed before.0 before.1 in
-        let still : SoundTree o u = sound_renamed o t u front first.rest back first.name name path first.named texts sound changed in
         let count : element_count front ≡ i = ap element_count (sym inside.is) ∙ parts.count in
         record {
           given_up = first.name;
           front = front;
           rest = first.rest;
           back = back;
-          before = before.0;
-          after = now.0;
-          old_text = prints_value o t (Some before.0) sound before.1;
-          new_text = prints_value o u (Some now.0) still now.1;
-          renamed = subst (λ k. RenamesMember path k name before.0 now.0) count now.2;
           changed = changed;
-          sound = still;
+          is =
+              value_edited (λ x y. (was : List Mark) × MarksDifferIn was (Mark.literal (spelled name) ∷ []) x y) o (RenamesMember path i name) none_put changed sound (sound_renamed o t u front first.rest back first.name name path first.named texts sound changed)
+              (λ x has. subst (λ k. (y : Plain) × DocumentValueOf o u (Some y) × RenamesMember path k name x y) count (value_renamed o t u front first.rest back first.name name path first.named texts sound changed x has))
+              (marks_under (top_at old n), is_marked n given.1 (IsOver.above said (over_at old tree path c at)) texts);
         }
 
 pub writes_name : (o : Options) (old new : List Node) (path : List ℕ) (c i p m : ℕ) (name : List ℕ) → WritesName o old new path c i p m name

@@ -23,7 +23,6 @@ use Rattle.jsonc_layout.specs.nodes.Siblings.{AreThere, IsThere, elements_at}
 use Rattle.jsonc_layout.proofs.lemmas.nodes.PropertyValues.{IsAlike, held_alike, held_in, value_is_held}
 use Rattle.jsonc_layout.proofs.lemmas.nodes.InTree.{before_there, find_there}
 use Rattle.jsonc_sound.specs.Shape.{IsTrivia, token_then}
-use Rattle.jsonc_sound.proofs.ShapeValues.{document_printed}
 use Rattle.jsonc_sound.specs.ChangeLaws.{DiffersIn}
 use Rattle.jsonc_sound.specs.Rows as rows
 use Rattle.jsonc_sound.specs.Rows.{Last}
@@ -50,6 +49,7 @@ use Rattle.jsonc_sound.specs.Marks.{marks}
 use Rattle.jsonc_sound.specs.Written as written_marks
 use Rattle.jsonc_sound.proofs.ReplacedStretches.{values_marks}
 use Rattle.jsonc_sound.specs.Leaving.{element_count}
+use Rattle.jsonc_sound.specs.Changes.{Changed}
 use Rattle.jsonc_edit.specs.Due.{prints, prints_at, nearest, beginning_in, space_needed_before, ends_bare, is_bare_at, listed, seen_before}
 use Rattle.jsonc_edit.specs.Put.{AreSpaced}
 use Rattle.jsonc_edit.proofs.InsertedSpaces.{contents_kept}
@@ -80,7 +80,7 @@ use Rattle.jsonc_edit.proofs.lemmas.set.BooleanSetting.{boolean_of}
 use Rattle.jsonc_edit.proofs.lemmas.set.HexBefore.{hex_before}
 use Rattle.jsonc_edit.proofs.lemmas.set.HexRows.{Flat, a_leaf, array_row, more_flat, flat_before, array_flat, property_flat, root_flat, hex_seen}
 use Rattle.jsonc_edit.proofs.lemmas.set.PropertyRows.{Parted, parted, object_row, inside_of, counted_elements}
-use Rattle.jsonc_edit.proofs.SoundValues.{some_value_of, prints_value, prints_first}
+use Rattle.jsonc_edit.proofs.SoundValues.{value_edited}
 use Rattle.jsonc_edit.proofs.lemmas.set.RenamedProperty.{node_leaves}
 
 -- a row that begins with a leaf that is printed prints something before a node that is not its first
@@ -542,24 +542,17 @@ module _ (old new : List Node) (path : List ℕ) (n : ℕ) (b : Bool) (tree : Is
 
     boolean_written : IsWrittenAt o (Plain.boolean b) path (top_at old n) (boolean_leaf b) (ordered_tree old 0) (ordered_tree new 0)
     boolean_written =
-        let known = document_printed o (ordered_tree spaced 0) still_sound.shaped still_sound.lines in
-        let before = some_value_of o changed known.0 known.2 in
-        let after = document_change o before.0 (Plain.boolean b) changed values.boolean before.1 in
         let same : boolean_leaf a ≡ top_at old n = sym old_leaf ∙ top_same in
         record {
-          given_up = after.0;
-          before = before.0;
-          after = after.1;
           spaced = ordered_tree spaced 0;
-          old_text = prints_first o spaces sound (Some before.0) before.1;
-          new_text = prints_value o (ordered_tree new 0) (Some after.1) after_sound after.4;
-          changed = after.3;
           spaces = spaces;
           around = subst (λ (w : Top). DiffersIn (leaves_of w) (leaves_of (boolean_leaf b)) (leaves (ordered_tree spaced 0)) (leaves (ordered_tree new 0))) same (document_differs changed);
-          marked = subst (λ l. MarksDifferIn (marks_under (top_at old n)) (written_marks.written (Plain.boolean b)) l (marks (ordered_tree new 0))) (spaces_marks spaces)
+          is =
+              value_edited (MarksDifferIn (marks_under (top_at old n)) (written_marks.written (Plain.boolean b))) o (λ x y. (given_up : Plain) × Changed given_up (Plain.boolean b) path x y) spaces changed sound after_sound
+              (λ x has. let now = document_change o x (Plain.boolean b) changed values.boolean has in (now.1, now.4, (now.0, now.3)))
+              (subst (λ l. MarksDifferIn (marks_under (top_at old n)) (written_marks.written (Plain.boolean b)) l (marks (ordered_tree new 0))) (spaces_marks spaces)
               (subst (λ (w : Top). MarksDifferIn (marks_under w) (written_marks.written (Plain.boolean b)) (marks (ordered_tree spaced 0)) (marks (ordered_tree new 0))) same
-              (values_marks (ordered_tree spaced 0) (boolean_leaf a) (boolean_leaf b) path (ordered_tree new 0) changed));
-          sound = after_sound;
+              (values_marks (ordered_tree spaced 0) (boolean_leaf a) (boolean_leaf b) path (ordered_tree new 0) changed)));
         }
 
 -- spaces have come, and then the one truth value has been replaced by the other at the path

@@ -9,10 +9,10 @@ use Rattle.jsonc_tree.specs.OrderedTree.{OrderedTree, none, more, leaves, follow
 use Rattle.jsonc_tree.specs.Order.{with_parent}
 use Rattle.jsonc_tree.specs.Siblings.{siblings_after}
 use Rattle.jsonc_tree.specs.Tree.{Node, content_at, parent_at, children_at, place_at, IsTree, IsOver}
+use Rattle.jsonc_tree.specs.Values.{DocumentValueOf}
 use Rattle.jsonc_tree.proofs.Builder.{Keeps-same}
 use Rattle.jsonc_tree.proofs.Order.{parent_there}
 use Rattle.jsonc_sound.specs.Shape.{token_then}
-use Rattle.jsonc_sound.proofs.ShapeValues.{document_printed}
 use Rattle.jsonc_layout.specs.nodes.Kinds.{is_element, is_element_at}
 use Rattle.jsonc_layout.specs.from_input.Layout.{Layout}
 use Rattle.jsonc_layout.specs.from_input.Laid.{laid_property}
@@ -56,7 +56,7 @@ use Rattle.jsonc_edit.proofs.Writable.{property_may_stand, value_may_stand}
 use Rattle.jsonc_edit.specs.set.Giving.{due_after, is_bare_value, property_top, PropertyReplacedBy, IsPropertyReplaced}
 use Rattle.jsonc_edit.specs.set.Properties.{IsPropertyWritten, WritesProperty}
 use Rattle.jsonc_edit.proofs.lemmas.set.PropertyRows.{Parted, parted, ObjectRow, object_row, Inside, inside_of, property_here, counted_elements, due_placed, quiet_after, name_first, value_behind, property_differs}
-use Rattle.jsonc_edit.proofs.SoundValues.{some_value_of, prints_value, prints_first}
+use Rattle.jsonc_edit.proofs.SoundValues.{value_edited}
 use Rattle.jsonc_edit.proofs.ReplacedAlone.{first_false}
 
 module _ (o : Options) (old new : List Node) (path : List ℕ) (c i n m : ℕ) (name : List ℕ) (v : Plain) (tree : IsTree old) (sound : SoundTree o (ordered_tree old 0)) (at : IsAt old path c)
@@ -254,26 +254,19 @@ module _ (o : Options) (old new : List Node) (path : List ℕ) (c i n m : ℕ) (
 
   pub property_written_there : IsPropertyWritten o path i name v (top_at old n) (top_at new m) (ordered_tree old 0) (ordered_tree new 0)
   property_written_there =
-      let known = document_printed o (ordered_tree spaced 0) still_sound.shaped still_sound.lines in
-      let before = some_value_of o changed known.0 known.2 in
-      let after = value_with_property o (ordered_tree spaced 0) before.0 before.1 front was now back name v path (ordered_tree new 0) changed whole.value in
       let below_old : was ≡ (top_at old n).below = ap (λ (t : Top). t.below) top_same in
       let below_new : now ≡ (top_at new m).below = ap (λ (t : Top). t.below) (sym m_top) in
       record {
-        before = before.0;
-        after = after.0;
         spaced = ordered_tree spaced 0;
         front = front;
         back = back;
-        old_text = prints_first o spaces sound (Some before.0) before.1;
-        new_text = prints_value o (ordered_tree new 0) (Some after.0) after_sound after.1;
-        replaced = subst (λ k. ReplacesMember path k name v before.0 after.0) counted after.2;
         spaces = spaces;
         changed = subst (λ t. PropertyChanged front t (top_at new m).below back path (ordered_tree spaced 0) (ordered_tree new 0)) below_old
             (subst (λ t. PropertyChanged front was t back path (ordered_tree spaced 0) (ordered_tree new 0)) below_new changed);
         around = around;
-        marked = marked;
-        sound = after_sound;
+        is =
+            value_edited (MarksDifferIn (marks_under (top_at old n)) (property_written name v)) o (ReplacesMember path i name v) spaces changed sound after_sound
+            (λ x has. subst (λ k. (y : Plain) × DocumentValueOf o (ordered_tree new 0) (Some y) × ReplacesMember path k name v x y) counted (value_with_property o (ordered_tree spaced 0) x has front was now back name v path (ordered_tree new 0) changed whole.value)) marked;
       }
 
 pub writes_property : (o : Options) (old new : List Node) (path : List ℕ) (c i n m : ℕ) (name : List ℕ) (v : Plain) → WritesProperty o old new path c i n m name v

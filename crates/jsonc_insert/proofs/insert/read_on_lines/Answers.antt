@@ -5,4 +5,4 @@ use Rattle.jsonc_insert.proofs.insert.read_on_lines.Goals as goal
 
 pub returns : goal.returns
 returns g c = λ name v tells.
-    told_on_lines c.args.tree.now.nodes c.args.container c.args.index name v c.in_ok-beside.beside (layout_of c.in_ok-layout.layout) (string_bytes c.in_ok-outer.outer) c.in_ok-layout.ensures c.in_ok-outer.ensures tells c.in_ok-beside.ensures
+    told_on_lines c.args.tree.now.nodes c.args.container c.args.index name v c.neighbours_of-beside.result (layout_of c.in_ok-layout.layout) (string_bytes c.in_ok-outer.outer) c.in_ok-layout.ensures c.in_ok-outer.ensures tells c.neighbours_of-beside.ensures

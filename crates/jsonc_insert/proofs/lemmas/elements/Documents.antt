@@ -20,10 +20,10 @@ bracketed_marks of_properties row = marks_then row (token_then (closing of_prope
 
 module _ (o : Options) (kind : RowKind) (row new : OrderedTree) (path : List ℕ) (t u : OrderedTree) (changed : DocumentChanged (bracketed kind row) (bracketed kind new) path t u) where
   -- the marks of the element have come
-  pub marks_come : {top : Top} {n : ℕ} (kept : OrderedTree) → ElementInserted o top n kept new → marks row ≡ marks kept → (ms : List Mark) → marks_under top ≡ ms → GainsMarks ms n kept t u
+  pub marks_come : {top : Top} {n : ℕ} (kept : OrderedTree) → ElementInserted o top n kept new → marks row ≡ marks kept → (ms : List Mark) → marks_under top ≡ ms → GainsMarks ms n kept (marks t) (marks u)
   marks_come {top} kept e was ms literals = by e refl was
     where
-      by : {n : ℕ} {k now : OrderedTree} → ElementInserted o top n k now → marks new ≡ marks now → marks row ≡ marks k → GainsMarks ms n k t u
+      by : {n : ℕ} {k now : OrderedTree} → ElementInserted o top n k now → marks new ≡ marks now → marks row ≡ marks k → GainsMarks ms n k (marks t) (marks u)
       by (comes front back led behind gap c takes none_comes w g q alone) is had =
           let d = values_marks t (bracketed kind row) (bracketed kind new) path u changed in
           record {

@@ -34,7 +34,7 @@ use Rattle.jsonc_insert.specs.Inserted.{plan_of, put_by, ElementPut}
 use Rattle.jsonc_insert.specs.Planned.{elements, has_brackets, planned}
 use Rattle.jsonc_insert.specs.Settings.{is_spread, layout_inside, on_several_lines, outer_indent}
 use Rattle.jsonc_insert.specs.Trimmed.{trimmed}
-use Rattle.jsonc_insert.specs.declared.plan.Plan.{Plan}
+use Rattle.jsonc_insert.specs.Plans.{Plan}
 use Rattle.jsonc_insert.proofs.Additions.{whole_row}
 use Rattle.jsonc_insert.proofs.Numbering.{element_row}
 use Rattle.jsonc_insert.proofs.RowReplaced.{IsRowFor}

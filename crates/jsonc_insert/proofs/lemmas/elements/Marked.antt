@@ -69,8 +69,8 @@ new_marks o top front back led behind gap c w g =
     marks_then led (leaves_then gap rest) ∙ ap (λ ms. ms ++ marks (leaves_then gap rest)) (led_marks c)
     ∙ ap (λ ms. marks front ++ ms) (gap_marks rest w ∙ marks_first top behind ∙ ap (λ ms. marks_under top ++ ms) (behind_marks g))
 
-pub marks_come_in : (ms : List Mark) (i : ℕ) (row t u : OrderedTree) → MarksComeIn ms i row t u
-marks_come_in ms i row t u g = record {
+pub marks_come_in : (ms : List Mark) (i : ℕ) (row : OrderedTree) (x y : List Mark) → MarksComeIn ms i row x y
+marks_come_in ms i row x y g = record {
   front = g.before ++ marks g.front;
   back = marks g.back ++ g.behind;
   before = g.was ∙ sym (append_assoc g.before (marks g.front) (marks g.back ++ g.behind));

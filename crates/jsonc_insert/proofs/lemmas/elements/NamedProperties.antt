@@ -17,6 +17,7 @@ use Rattle.jsonc_sound.specs.Rows.{of_properties, closing}
 use Rattle.jsonc_sound.specs.Sound.{HasValue}
 use Rattle.jsonc_sound.specs.SoundTrees.{SoundTree}
 use Rattle.jsonc_sound.specs.Written.{property_written}
+use Rattle.jsonc_sound.specs.Leaving.{element_count}
 use Rattle.jsonc_sound.proofs.NodesAlone.{property_alone, property_leaves}
 use Rattle.jsonc_sound.proofs.AtPath.{held_at_path}
 use Rattle.jsonc_sound.proofs.JoinedRows.{joined_members, parted_members}
@@ -27,8 +28,11 @@ use Rattle.jsonc_sound.proofs.RootRows.{loosened}
 use Rattle.jsonc_edit.specs.Writing.{IsWritable}
 use Rattle.jsonc_edit.proofs.Writable.{property_may_stand}
 use Rattle.jsonc_edit.specs.multiline.Laws.{bracketed}
+use Rattle.jsonc_edit.specs.Spaced.{none_put}
 use Rattle.jsonc_insert.specs.elements.Members.{InsertsMemberAt, InsertsMember, IsMemberInserted, KeepsLeavesAround, KeepsNodesWithin, member_count, MemberInserted, PropertyInsertedAt}
-use Rattle.jsonc_edit.proofs.lemmas.multiline.SoundRows.{row_in_document, sound_with_row, texts, IsRow, Texts}
+use Rattle.jsonc_insert.specs.elements.Laws.{GainsMarks}
+use Rattle.jsonc_edit.proofs.lemmas.multiline.SoundRows.{row_in_document, sound_with_row, IsRow}
+use Rattle.jsonc_edit.proofs.SoundValues.{value_edited}
 use Rattle.jsonc_insert.proofs.lemmas.elements.Documents.{marks_come}
 use Rattle.jsonc_insert.proofs.lemmas.elements.Marked.{all_stay, kept_marks}
 use Rattle.jsonc_insert.proofs.lemmas.elements.Members.{kept_members, members_come, members_counted}
@@ -105,16 +109,8 @@ module _ (o : Options) (path : List ℕ) (i : ℕ) (name : List ℕ) (v : Plain)
 
   is_inserted : IsMemberInserted o path i name v t u s
   is_inserted =
-      let both : Texts o of_properties s.row s.new path t u s.changed (InsertsMemberAt path i name v) = texts o of_properties s.row s.new path t u s.changed (InsertsMemberAt path i name v) sound still new_value in
-      record {
-        before = both.before;
-        after = both.after;
-        old_text = both.old_text;
-        new_text = both.new_text;
-        gains = both.related;
-        marks = marks_come o of_properties s.row s.new path t u s.changed s.kept s.comes (sym (kept_marks s.leave ∙ spread_marks o s.spreads)) (property_written name v) (laid_as_written_named s.layout name v characters writable.texts);
-        sound = still;
-      }
+      value_edited (GainsMarks (property_written name v) (min i (element_count s.row)) s.kept) o (InsertsMemberAt path i name v) none_put s.changed sound still new_value
+      (marks_come o of_properties s.row s.new path t u s.changed s.kept s.comes (sym (kept_marks s.leave ∙ spread_marks o s.spreads)) (property_written name v) (laid_as_written_named s.layout name v characters writable.texts))
 
 pub inserts_member : (o : Options) (path : List ℕ) (i : ℕ) (name : List ℕ) (v : Plain) (t u : OrderedTree) (s : PropertyInsertedAt o path i name v t u) → InsertsMember s
 inserts_member o path i name v t u s sound characters writable = is_inserted o path i name v t u s sound characters writable

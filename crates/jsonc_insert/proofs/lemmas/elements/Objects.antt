@@ -32,7 +32,7 @@ use Rattle.jsonc_insert.specs.Inserted.{plan_of, put_by}
 use Rattle.jsonc_insert.specs.Planned.{elements, has_brackets, planned}
 use Rattle.jsonc_insert.specs.Settings.{layout_inside, outer_indent}
 use Rattle.jsonc_insert.specs.Trimmed.{trimmed}
-use Rattle.jsonc_insert.specs.declared.plan.Plan.{Plan}
+use Rattle.jsonc_insert.specs.Plans.{Plan}
 use Rattle.jsonc_insert.specs.members.Inserted.{PropertyPut}
 use Rattle.jsonc_insert.specs.members.Laws.{FitsAsTold}
 use Rattle.jsonc_insert.proofs.Additions.{whole_row}

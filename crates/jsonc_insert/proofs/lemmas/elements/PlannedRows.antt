@@ -32,7 +32,7 @@ use Rattle.jsonc_insert.specs.Planned.{elements, line_if, parting}
 use Rattle.jsonc_insert.specs.Trimmed.{with_at}
 use Rattle.jsonc_insert.specs.declared.plan.Gap as written
 use Rattle.jsonc_insert.specs.declared.plan.Gap.TheVariants.{Nothing, Space, Line}
-use Rattle.jsonc_insert.specs.declared.plan.Plan.{Plan}
+use Rattle.jsonc_insert.specs.Plans.{Plan}
 use Rattle.jsonc_insert.specs.elements.Coming.{CommaInserted, none_comes, one_comes, ElementInserted, comes, Gap, nothing, a_space, a_line, GoesOn, elements_follow, none_follow, comma_last, takes_element, Follows, behind_bracket, behind_comma, behind_comments, no_others, EndsRow}
 use Rattle.jsonc_insert.proofs.lemmas.elements.Plans as plans
 use Rattle.jsonc_edit.proofs.lemmas.multiline.SoundRows.{IsRow}

@@ -29,7 +29,7 @@ use Rattle.jsonc_insert.specs.Made.{comma_at, comma_leaf, gap_leaves}
 use Rattle.jsonc_insert.specs.Trimmed.{with_at}
 use Rattle.jsonc_insert.specs.declared.plan.Gap as written
 use Rattle.jsonc_insert.specs.declared.plan.Gap.TheVariants.{Nothing, Space, Line}
-use Rattle.jsonc_insert.specs.declared.plan.Plan.{Plan}
+use Rattle.jsonc_insert.specs.Plans.{Plan}
 use Rattle.jsonc_insert.proofs.lemmas.elements.PlannedRows.{Filled}
 
 -- a row with others at its places

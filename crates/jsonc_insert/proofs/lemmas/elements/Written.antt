@@ -15,6 +15,7 @@ use Rattle.jsonc_sound.specs.Rows.{of_values, closing}
 use Rattle.jsonc_sound.specs.Sound.{HasValue, IsNewValue}
 use Rattle.jsonc_sound.specs.SoundTrees.{SoundTree}
 use Rattle.jsonc_sound.specs.Written.{written}
+use Rattle.jsonc_sound.specs.Leaving.{element_count}
 use Rattle.jsonc_sound.proofs.NodesAlone.{value_alone, value_leaves}
 use Rattle.jsonc_sound.proofs.AtPath.{held_at_path}
 use Rattle.jsonc_sound.proofs.JoinedRows.{joined_items, parted_items}
@@ -25,8 +26,10 @@ use Rattle.jsonc_sound.proofs.RootRows.{loosened}
 use Rattle.jsonc_edit.specs.Writing.{IsWritable}
 use Rattle.jsonc_edit.proofs.Writable.{value_may_stand}
 use Rattle.jsonc_edit.specs.multiline.Laws.{bracketed}
-use Rattle.jsonc_insert.specs.elements.Laws.{ElementInsertedAt, InsertsItem, InsertsElement, IsInserted, item_count, ItemInserted, KeepsLeavesOutside, KeepsNodesInside}
-use Rattle.jsonc_edit.proofs.lemmas.multiline.SoundRows.{row_in_document, sound_with_row, texts, IsRow, Texts}
+use Rattle.jsonc_edit.specs.Spaced.{none_put}
+use Rattle.jsonc_insert.specs.elements.Laws.{ElementInsertedAt, InsertsItem, InsertsElement, IsInserted, item_count, ItemInserted, KeepsLeavesOutside, KeepsNodesInside, GainsMarks}
+use Rattle.jsonc_edit.proofs.lemmas.multiline.SoundRows.{row_in_document, sound_with_row, IsRow}
+use Rattle.jsonc_edit.proofs.SoundValues.{value_edited}
 use Rattle.jsonc_insert.proofs.lemmas.elements.Documents.{marks_come}
 use Rattle.jsonc_insert.proofs.lemmas.elements.Items.{counted, items_come, kept_items}
 use Rattle.jsonc_insert.proofs.lemmas.elements.Marked.{all_stay, kept_marks}
@@ -100,16 +103,8 @@ module _ (o : Options) (path : List ℕ) (i : ℕ) (v : Plain) (t u : OrderedTre
 
   is_inserted : IsInserted o path i v t u s
   is_inserted =
-      let both : Texts o of_values s.row s.new path t u s.changed (InsertsItem path i v) = texts o of_values s.row s.new path t u s.changed (InsertsItem path i v) sound still new_value in
-      record {
-        before = both.before;
-        after = both.after;
-        old_text = both.old_text;
-        new_text = both.new_text;
-        gains = both.related;
-        marks = marks_come o of_values s.row s.new path t u s.changed s.kept s.comes (sym (kept_marks s.leave)) (written v) (laid_as_written s.layout v writable.texts);
-        sound = still;
-      }
+      value_edited (GainsMarks (written v) (min i (element_count s.row)) s.kept) o (InsertsItem path i v) none_put s.changed sound still new_value
+      (marks_come o of_values s.row s.new path t u s.changed s.kept s.comes (sym (kept_marks s.leave)) (written v) (laid_as_written s.layout v writable.texts))
 
 pub inserts_element : (o : Options) (path : List ℕ) (i : ℕ) (v : Plain) (t u : OrderedTree) (s : ElementInsertedAt o path i v t u) → InsertsElement s
 inserts_element o path i v t u s sound writable = is_inserted o path i v t u s sound writable

@@ -2,14 +2,11 @@
 use Rattle.std.proofs.Common.{◌≡◌, ℕ, Bool, true, false, List, [], ◌∷◌, ◌++◌, Some, refl, sym, ap, subst, ◌∙◌}
 use Rattle.jsonc_text.specs.Options.{Options}
 use Rattle.jsonc_text.specs.Plain.{Plain, Members}
-use Rattle.jsonc_text.specs.Grammar.{IsDocument}
 use Rattle.jsonc_tree.specs.Content.{Content, object}
 use Rattle.jsonc_tree.specs.OrderedTree.{OrderedTree, Top, leaves, ordered_tree}
 use Rattle.jsonc_tree.specs.Tree.{Node, content_at, IsTree}
 use Rattle.jsonc_tree.specs.Values as values
 use Rattle.jsonc_tree.specs.Values.{ValueOf, DocumentValueOf}
-use Rattle.jsonc_sound.specs.Shape.{printed_text}
-use Rattle.jsonc_sound.proofs.ShapeValues.{document_printed}
 use Rattle.jsonc_layout.specs.from_input.Laid.{laid}
 use Rattle.jsonc_sound.proofs.ReplacedStretches.{marks_follow}
 use Rattle.jsonc_sound.proofs.Laid.{laid_as_written}
@@ -20,16 +17,18 @@ use Rattle.jsonc_sound.specs.ChangeLaws.{DiffersIn}
 use Rattle.jsonc_sound.specs.MarkChanges.{MarksDifferIn, marks_under}
 use Rattle.jsonc_sound.specs.Marks.{Mark, marks}
 use Rattle.jsonc_sound.specs.SoundTrees.{SoundTree}
-use Rattle.jsonc_sound.specs.TreeChanges.{leaves_of}
+use Rattle.jsonc_sound.specs.TreeChanges.{leaves_of, DocumentChanged}
 use Rattle.jsonc_sound.specs.Written.{written}
+use Rattle.jsonc_sound.specs.Edited.{ValueEdited}
 use Rattle.jsonc_edit.specs.Changes.{top_at}
 use Rattle.jsonc_edit.specs.Paths.{IsAt}
 use Rattle.jsonc_edit.specs.Reading.{layout_for, IsReplaced}
-use Rattle.jsonc_edit.specs.Spaced.{SpacesPut}
+use Rattle.jsonc_edit.specs.Spaced.{SpacesPut, none_put}
 use Rattle.jsonc_edit.specs.Writing.{IsWritable}
 use Rattle.jsonc_edit.proofs.ReplacedValues.{changed, put, replaced_written}
 use Rattle.jsonc_edit.proofs.Spacing.{spaces_marks}
 use Rattle.jsonc_edit.proofs.SeamsGiving.{gives_way_with_seams}
+use Rattle.jsonc_edit.proofs.SoundValues.{value_edited, edited_as}
 use Rattle.jsonc_edit.specs.set.Kinds.{KeptOrReplaced}
 use Rattle.jsonc_edit.specs.set.PropertyValues.{HeldOrSet}
 use Rattle.jsonc_text.specs.declared.edit.Over.TheVariants as over
@@ -38,9 +37,8 @@ use Rattle.jsonc_text.specs.declared.edit.Shape.TheVariants.{Object, Array}
 use Rattle.jsonc_insert.specs.named.Named.{PropertyValueEnsured}
 use Rattle.jsonc_insert.specs.named.Places.{IsPropertyAt, IsPropertyOf}
 use Rattle.jsonc_edit.specs.set.Shapes.{has_shape, is_of, empty_of, EnsuredValue, has_it, must_give_way}
-use Rattle.jsonc_edit.proofs.SoundValues.{some_value_of, prints_value}
 use Rattle.jsonc_insert.specs.named.Values.{ReplacesHeld, ReplacesValue, ValueEnsured, all_stays, empty_given}
-use Rattle.jsonc_insert.proofs.lemmas.named.PathValues.{gives_way_to_itself, value_at_path, value_of_text, value_once}
+use Rattle.jsonc_insert.proofs.lemmas.named.PathValues.{gives_way_to_itself, value_at_path, value_once}
 use Rattle.jsonc_insert.proofs.lemmas.named.PropertyValues.{value_held}
 
 -- an empty value may be written
@@ -161,52 +159,30 @@ ensured_marks o t u path shape (all_stays same) = ([], record { front = []; back
 ensured_marks o t u path Object (empty_given g other) = value_marked o t u path (empty_of Object) (empty_writable o Object) g
 ensured_marks o t u path Array (empty_given g other) = value_marked o t u path (empty_of Array) (empty_writable o Array) g
 
--- the text is a document again, in which the value that the property holds is of the shape
-pub record ShapeWritten (o : Options) (front : List ℕ) (i : ℕ) (shape : Shape) (t u : OrderedTree) : Type 0 where
-  pub before : Plain
-  pub after : Plain
-  pub old_text : IsDocument o (printed_text t) (Some before)
-  pub new_text : IsDocument o (printed_text u) (Some after)
+-- the value that the property holds is of the shape
+pub record HeldEnsured (front : List ℕ) (i : ℕ) (shape : Shape) (x y : Plain) : Type 0 where
   pub was : Plain
   pub now : Plain
   pub ensured : EnsuredValue shape over.Replace (Some was) (Some now)
-  pub replaces : ReplacesHeld front i was now before after
-  pub sound : SoundTree o u
+  pub replaces : ReplacesHeld front i was now x y
+
+abbrev pub LosesStretch : List Mark → List Mark → Type 0
+LosesStretch x y = (was : List Mark) × MarksDifferIn was [] x y
 
 module _ (o : Options) (old new : List Node) (front : List ℕ) (c i r : ℕ) (shape : Shape) (tree : IsTree old) (s : SoundTree o (ordered_tree old 0)) (at : IsAt old front c) (inside : IsPropertyOf old c i r) where
-  pub shape_written : Ensured old new (front ++ i ∷ []) shape → ShapeWritten o front i shape (ordered_tree old 0) (ordered_tree new 0)
-  shape_written (has_stayed n stands is same) =
-      let path : List ℕ = front ++ i ∷ [] in
-      let known = document_printed o (ordered_tree old 0) s.shaped s.lines in
-      let value = some_value_of o (gives_way_to_itself old tree path n stands) known.0 known.2 in
-      let text = prints_value o (ordered_tree old 0) (Some value.0) s value.1 in
-      let held = value_at_path o old tree path n stands value.0 value.1 in
-      subst (λ (ns : List Node). ShapeWritten o front i shape (ordered_tree old 0) (ordered_tree ns 0)) (sym same)
-      (record {
-        before = value.0;
-        after = value.0;
-        old_text = text;
-        new_text = text;
-        was = held.value;
-        now = held.value;
-        ensured = has_it (sym (same_shape shape held.has) ∙ is);
-        replaces = replaces_held o old tree front c i at inside.of_object value.0 value.0 value.1 held.at;
-        sound = s;
-      })
-  shape_written (has_given_way n m stands is given) =
-      let path : List ℕ = front ++ i ∷ [] in
-      let w = replaced_written o old new n m (empty_of shape) tree given path s stands (empty_writable o shape) in
-      let value = value_of_text o (ordered_tree old 0) s w.before w.old_text in
-      let held = value_at_path o old tree path n stands w.before value in
-      let changed = subst (λ x. Changed x (empty_of shape) path w.before w.after) (value_once w.changed held.at) w.changed in
-      record {
-        before = w.before;
-        after = w.after;
-        old_text = w.old_text;
-        new_text = w.new_text;
-        was = held.value;
-        now = empty_of shape;
-        ensured = must_give_way (sym (same_shape shape held.has) ∙ is);
-        replaces = replaces_held o old tree front c i at inside.of_object w.before w.after value changed;
-        sound = w.sound;
-      }
+  pub shape_written : Ensured old new (front ++ i ∷ []) shape → ValueEdited o (HeldEnsured front i shape) LosesStretch (ordered_tree old 0) (ordered_tree new 0)
+  shape_written e = by e (ensured_marks o (ordered_tree old 0) (ordered_tree new 0) (front ++ i ∷ []) shape (stays_ensured old new (front ++ i ∷ []) shape tree e))
+    where
+      by : Ensured old new (front ++ i ∷ []) shape → LosesStretch (marks (ordered_tree old 0)) (marks (ordered_tree new 0)) → ValueEdited o (HeldEnsured front i shape) LosesStretch (ordered_tree old 0) (ordered_tree new 0)
+      by (has_stayed n stands is same) left =
+          value_edited LosesStretch o (HeldEnsured front i shape) none_put (subst (λ (ns : List Node). DocumentChanged (top_at old n) (top_at old n) (front ++ i ∷ []) (ordered_tree old 0) (ordered_tree ns 0)) (sym same) (gives_way_to_itself old tree (front ++ i ∷ []) n stands)) s (subst (λ ns. SoundTree o (ordered_tree ns 0)) (sym same) s)
+          (λ x has.
+          let held = value_at_path o old tree (front ++ i ∷ []) n stands x has in
+          (x, subst (λ ns. DocumentValueOf o (ordered_tree ns 0) (Some x)) (sym same) has, record { was = held.value; now = held.value; ensured = has_it (sym (same_shape shape held.has) ∙ is); replaces = replaces_held o old tree front c i at inside.of_object x x has held.at }))
+          left
+      by (has_given_way n m stands is given) left =
+          let w = (replaced_written o old new n m (empty_of shape) tree given (front ++ i ∷ []) s stands (empty_writable o shape)).is in
+          let held = value_at_path o old tree (front ++ i ∷ []) n stands w.before w.old.value in
+          let changed = subst (λ x. Changed x (empty_of shape) (front ++ i ∷ []) w.before w.after) (value_once w.value.1 held.at) w.value.1 in
+          edited_as (HeldEnsured front i shape) LosesStretch w (record { was = held.value; now = empty_of shape; ensured = must_give_way (sym (same_shape shape held.has) ∙ is); replaces = replaces_held o old tree front c i at inside.of_object w.before w.after w.old.value changed })
+          left

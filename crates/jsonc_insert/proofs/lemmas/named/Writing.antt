@@ -12,11 +12,10 @@ use Rattle.jsonc_tree.specs.Content.{Content}
 use Rattle.jsonc_tree.specs.OrderedTree.{OrderedTree, ordered_tree}
 use Rattle.jsonc_tree.specs.Tree.{Node, content_at, children_at, IsTree}
 use Rattle.jsonc_tree.specs.Values as values
-use Rattle.jsonc_tree.specs.Values.{ValueOf, MembersOf, DocumentValueOf}
+use Rattle.jsonc_tree.specs.Values.{ValueOf, MembersOf}
 use Rattle.jsonc_tree.proofs.Order.{parent_there}
 use Rattle.jsonc_tree.proofs.OrderedTrees.{Shows-unique}
 use Rattle.jsonc_sound.specs.Shape.{printed_text}
-use Rattle.jsonc_sound.proofs.ShapeValues.{document_printed}
 use Rattle.jsonc_layout.specs.nodes.Kinds.{is_element, is_element_at}
 use Rattle.jsonc_layout.specs.nodes.Names as names
 use Rattle.jsonc_layout.specs.nodes.Names.{FirstInObject, FirstNamed, IsNamed}
@@ -29,6 +28,7 @@ use Rattle.jsonc_sound.specs.Changes.{Changed, MemberChanged}
 use Rattle.jsonc_sound.specs.Marks.{marks}
 use Rattle.jsonc_sound.specs.SoundTrees.{SoundTree}
 use Rattle.jsonc_sound.specs.Written.{property_written}
+use Rattle.jsonc_sound.specs.Edited.{Says}
 use Rattle.jsonc_edit.specs.Changes.{row_below}
 use Rattle.jsonc_edit.specs.Paths.{IsAt}
 use Rattle.jsonc_text.specs.declared.edit.EditError.{EditError}
@@ -46,15 +46,15 @@ use Rattle.jsonc_insert.proofs.lemmas.members.PastTheEnd.{past_the_end}
 use Rattle.jsonc_insert.proofs.lemmas.members.SpreadObjects.{wants_memory_alone}
 use Rattle.jsonc_insert.proofs.lemmas.properties.InsertedRows.{properties_come_at}
 use Rattle.jsonc_edit.proofs.lemmas.set.PropertyRows.{counted_elements}
+use Rattle.jsonc_edit.proofs.SoundValues.{some_says, edited_as}
 use Rattle.jsonc_text.specs.declared.edit.Over.{Over}
 use Rattle.jsonc_text.specs.declared.edit.Over.TheVariants as over
 use Rattle.jsonc_text.specs.declared.edit.Shape.{Shape}
 use Rattle.jsonc_insert.specs.named.Laws.{FindsMember, FoundAmong, IsNamedWritten, StaysAround, all_stays, value_given, property_come, ChangesMarks, none_leave, some_leave, name_comes, OnlyOutOfMemory, WritesNamed}
-use Rattle.jsonc_insert.specs.named.Members.{LacksMember, no_more, other_name, IsFirstMember, first_is, first_later, MemberEnsured, comes_last, this_member, later_member}
+use Rattle.jsonc_insert.specs.named.Members.{LacksMember, no_more, other_name, IsFirstMember, first_is, first_later, MemberEnsured, comes_last, this_member, later_member, EnsuresMember}
 use Rattle.jsonc_insert.specs.named.Named.{ComesNamed, EnsuredFor, EnsureError, PropertyValueIs}
 use Rattle.jsonc_insert.specs.named.Places.{IsPropertyOf, a_property}
 use Rattle.jsonc_edit.specs.set.Shapes.{has_shape, empty_of, EnsuredValue, has_it, may_stay}
-use Rattle.jsonc_edit.proofs.SoundValues.{some_value_of, prints_value}
 use Rattle.jsonc_insert.specs.named.Values as giving
 use Rattle.jsonc_insert.specs.named.Values.{ValueEnsured}
 use Rattle.jsonc_insert.proofs.lemmas.named.Names.{Among, IsWhole, members_found}
@@ -123,22 +123,19 @@ module _ (o : Options) (ns : List Node) (path : List ℕ) (c : ℕ) (tree : IsTr
   -- the object's value, and its properties
   record ObjectThere : Type 0 where
     value : Plain
-    valued : DocumentValueOf o (ordered_tree ns 0) (Some value)
-    text : IsDocument o (printed_text (ordered_tree ns 0)) (Some value)
+    says : Says o (ordered_tree ns 0) (Some value)
     members : Members
     at_path : Changed (Plain.object members) (Plain.object members) path value value
     below : MembersOf o (row_below ns c) members
 
   object_there : ObjectThere
   object_there =
-      let known = document_printed o (ordered_tree ns 0) s.shaped s.lines in
-      let value = some_value_of o (gives_way_to_itself ns tree path c at) known.0 known.2 in
-      let held = value_at_path o ns tree path c at value.0 value.1 in
+      let value = some_says o (gives_way_to_itself ns tree path c at) s in
+      let held = value_at_path o ns tree path c at value.0 value.1.value in
       let inside = object_members is held.has in
       record {
         value = value.0;
-        valued = value.1;
-        text = prints_value o (ordered_tree ns 0) (Some value.0) s value.1;
+        says = value.1;
         members = inside.0;
         at_path = subst (λ v. Changed v v path value.0 value.0) inside.1 held.at;
         below = inside.2;
@@ -155,7 +152,7 @@ module _ (o : Options) (ns : List Node) (path : List ℕ) (c : ℕ) (tree : IsTr
 pub finds_member : (o : Options) (ns : List Node) (path : List ℕ) (c : ℕ) (name : List ℕ) (found : Option ℕ) → FindsMember o ns path c name found
 finds_member o ns path c name found tree s at is first =
     let it = object_there o ns path c tree s at is in
-    record { value = it.value; text = it.text; members = it.members; at = it.at_path; among = among o ns path c tree s at is name found first }
+    record { value = it.value; says = it.says; members = it.members; at = it.at_path; among = among o ns path c tree s at is name found first }
 
 module _ (o : Options) (old new : List Node) (path : List ℕ) (c : ℕ) (name : List ℕ) (shape : Shape) (how : Over) (tree : IsTree old) (s : SoundTree o (ordered_tree old 0)) (at : IsAt old path c) (is : content_at old c ≡ content.object) where
   abbrev was : ObjectThere o old path c tree s at is
@@ -164,7 +161,7 @@ module _ (o : Options) (old new : List Node) (path : List ℕ) (c : ℕ) (name :
   -- what changes in the object's properties changes in these
   same_members : (before after : Plain) (ms ns : Members) → IsDocument o (printed_text (ordered_tree old 0)) (Some before) → Changed (Plain.object ms) (Plain.object ns) path before after → ms ≡ was.members
   same_members before after ms ns text changed =
-      let both : Some before ≡ Some was.value = document_unique o (printed_text (ordered_tree old 0)) (Some before) (Some was.value) text was.text in
+      let both : Some before ≡ Some was.value = document_unique o (printed_text (ordered_tree old 0)) (Some before) (Some was.value) text was.says.text in
       let same : before ≡ was.value = cc in
       object_same ms was.members (value_once (subst (λ x. Changed (Plain.object ms) (Plain.object ns) path x after) same changed) was.at_path)
 
@@ -181,25 +178,16 @@ module _ (o : Options) (old new : List Node) (path : List ℕ) (c : ℕ) (name :
       let brackets = (wants_memory_alone o old path c tree s at is).0 in
       let come = properties_come_at o old new path c len name v comes.property tree s at is put in
       let w = inserts_member o path len name v (ordered_tree old 0) (ordered_tree new 0) come s texts (empty_writable o shape) in
-      let same : w.gains.old ≡ was.members = same_members w.before w.after w.gains.old w.gains.new w.old_text w.gains.changed in
-      let count : min len (member_count w.gains.old) ≡ member_count w.gains.old =
+      let same : w.value.old ≡ was.members = same_members w.before w.after w.value.old w.value.new w.old.text w.value.changed in
+      let count : min len (member_count w.value.old) ≡ member_count w.value.old =
       min-eq_right (subst (λ k. k ≤ len) (sym (ap member_count same)) (omega (arith, counted))) in
-      let lacks : LacksMember name w.gains.old = subst (LacksMember name) (sym same) (among o old path c tree s at is name None none) in
+      let lacks : LacksMember name w.value.old = subst (LacksMember name) (sym same) (among o old path c tree s at is name None none) in
       record {
-        before = w.before;
-        after = w.after;
-        old_text = w.old_text;
-        new_text = w.new_text;
-        ensures = record {
-          old = w.gains.old;
-          new = w.gains.new;
-          members = ensured_last name shape how w.gains.old w.gains.new (min len (member_count w.gains.old)) count lacks w.gains.comes;
-          inside = w.gains.changed;
-        };
         around = property_come len (λ i far. properties_come_at o old new path c i name v comes.property tree s at is
             (past_the_end old new c len i name v comes.property tree (there o old path c tree s at is) brackets (omega arith) far put));
-        marks = name_comes (marks_come_in (property_written name v) (min len _) _ (ordered_tree old 0) (ordered_tree new 0) w.marks);
-        sound = w.sound;
+        is = edited_as (EnsuresMember path name shape how) (λ x y. ChangesMarks name shape x y how) w
+            (record { old = w.value.old; new = w.value.new; members = ensured_last name shape how w.value.old w.value.new (min len (member_count w.value.old)) count lacks w.value.comes; inside = w.value.changed })
+            (name_comes (marks_come_in (property_written name v) (min len _) _ (marks (ordered_tree old 0)) (marks (ordered_tree new 0)) w.marks));
       }
 
   -- all stays
@@ -209,14 +197,15 @@ module _ (o : Options) (old new : List Node) (path : List ℕ) (c : ℕ) (name :
       subst (λ (h : Over). IsNamedWritten o path name shape h (ordered_tree old 0) (ordered_tree new 0)) (sym keep)
       (subst (λ (ns : List Node). IsNamedWritten o path name shape over.Keep (ordered_tree old 0) (ordered_tree ns 0)) (sym same)
       (record {
-        before = was.value;
-        after = was.value;
-        old_text = was.text;
-        new_text = was.text;
-        ensures = record { old = was.members; new = was.members; members = ensured_kept name shape was.members it.0 it.2; inside = was.at_path };
         around = all_stays refl;
-        marks = none_leave refl;
-        sound = s;
+        is = record {
+          before = was.value;
+          after = was.value;
+          old = was.says;
+          new = was.says;
+          value = record { old = was.members; new = was.members; members = ensured_kept name shape was.members it.0 it.2; inside = was.at_path };
+          marks = none_leave refl;
+        };
       }))
 
   stays_so : (i : ℕ) → ValueEnsured (path ++ i ∷ []) shape (ordered_tree old 0) (ordered_tree new 0) → StaysAround o path name shape (ordered_tree old 0) (ordered_tree new 0) over.Replace
@@ -232,24 +221,15 @@ module _ (o : Options) (old new : List Node) (path : List ℕ) (c : ℕ) (name :
       let e = value_ensured o old new tree s (path ++ i ∷ []) r (a_property path c i at inside) shape (named, m, held) in
       let w = shape_written o old new path c i r shape tree s at inside e in
       let around = stays_ensured old new (path ++ i ∷ []) shape tree e in
-      let left = ensured_marks o (ordered_tree old 0) (ordered_tree new 0) (path ++ i ∷ []) shape around in
-      let same : w.replaces.old ≡ was.members = same_members w.before w.after w.replaces.old w.replaces.new w.old_text w.replaces.inside in
-      let first_one : IsFirstMember name i w.replaces.old = subst (IsFirstMember name i) (sym same) it.2 in
+      let h = w.value.replaces in
+      let same : h.old ≡ was.members = same_members w.before w.after h.old h.new w.old.text h.inside in
+      let first_one : IsFirstMember name i h.old = subst (IsFirstMember name i) (sym same) it.2 in
       subst (λ (h : Over). IsNamedWritten o path name shape h (ordered_tree old 0) (ordered_tree new 0)) (sym replace)
       (record {
-        before = w.before;
-        after = w.after;
-        old_text = w.old_text;
-        new_text = w.new_text;
-        ensures = record {
-          old = w.replaces.old;
-          new = w.replaces.new;
-          members = ensured_changed name shape over.Replace w.was w.now w.replaces.old w.replaces.new i first_one w.ensured w.replaces.changed;
-          inside = w.replaces.inside;
-        };
         around = stays_so i around;
-        marks = some_leave left.0 left.1;
-        sound = w.sound;
+        is = edited_as (EnsuresMember path name shape over.Replace) (λ x y. ChangesMarks name shape x y over.Replace) w
+            (record { old = h.old; new = h.new; members = ensured_changed name shape over.Replace w.value.was w.value.now h.old h.new i first_one w.value.ensured h.changed; inside = h.inside })
+            (some_leave w.marks.0 w.marks.1);
       })
 
 written_by : (o : Options) (old new : List Node) (path : List ℕ) (c : ℕ) (name : List ℕ) (shape : Shape) (how : Over) (tree : IsTree old) (s : SoundTree o (ordered_tree old 0)) (at : IsAt old path c) (is : content_at old c ≡ content.object)
@@ -270,7 +250,7 @@ around_marks o t u path name shape _ s texts (value_given i g other) =
 around_marks o t u path name shape how s texts (property_come n comes) =
     let v : Plain = empty_of shape in
     let w = inserts_member o path n name v t u (comes n (omega arith)) s texts (empty_writable o shape) in
-    name_comes (marks_come_in (property_written name v) _ _ t u w.marks)
+    name_comes (marks_come_in (property_written name v) _ _ (marks t) (marks u) w.marks)
 
 -- a property of a sound document has its name and its colon
 module _ (o : Options) (ns : List Node) (path : List ℕ) (c : ℕ) (name : List ℕ) (tree : IsTree ns) (s : SoundTree o (ordered_tree ns 0)) (at : IsAt ns path c) (is : content_at ns c ≡ content.object) where

@@ -1,5 +1,5 @@
 use Rattle.std.proofs.Common.{◌∙◌}
-use Rattle.jsonc_insert.proofs.Windows.{last_before}
+use Rattle.jsonc_insert.proofs.AlongSiblings.{last_before}
 use Rattle.jsonc_insert.proofs.neighbours.element_before.Goals as goal
 
 pub returns-then-index-len-clause-element : goal.returns-then-index-len-clause-element

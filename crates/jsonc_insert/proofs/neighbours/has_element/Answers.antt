@@ -1,5 +1,5 @@
 use Rattle.std.proofs.Common.{ap, sym, is_some}
-use Rattle.jsonc_insert.proofs.Windows.{no_more}
+use Rattle.jsonc_insert.proofs.AlongSiblings.{no_more}
 use Rattle.jsonc_insert.proofs.neighbours.has_element.Goals as goal
 
 pub returns-then-index-len : goal.returns-then-index-len

@@ -145,7 +145,7 @@ module _ (d : Document) (ns : List Node) (tree : IsTree ns) (shown : Shows d (or
       found_here : (found : Option ℕ) → FirstInObject ns n token found → Found found
       found_here found first =
           let f = finds_member d.options ns w.path n token found tree shown.sound w.at is first in
-          let top : f.value ≡ w.value = some_same d ns tree shown f.value w.value (sym (document_once First d ns tree shown f.value f.text) ∙ w.is) in
+          let top : f.value ≡ w.value = some_same d ns tree shown f.value w.value (sym (document_once First d ns tree shown f.value f.says.text) ∙ w.is) in
           record { ms = f.members; its = value_once (first_changed w.leads) (subst (λ k. Changed (plain.object f.members) (plain.object f.members) w.path k k) top f.at); among = f.among }
 
       pub no_member : FirstInObject ns n token None → Stops NoMember token w.v

@@ -62,7 +62,7 @@ finds_first d ns path n name found tree shown at is first =
     let f = finds_member d.options ns path n name found tree shown.sound at is first in
     record {
       x = f.value;
-      is = value_once First d ns tree shown f.value f.text;
+      is = value_once First d ns tree shown f.value f.says.text;
       ms = f.members;
       there = f.at;
       none = none_exactly d ns tree shown path n at is name found f.members f.among;

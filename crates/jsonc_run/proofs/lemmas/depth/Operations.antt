@@ -78,8 +78,8 @@ module _ (d e : Document) where
   without_comment n h = same 0 h.8
 
   with_comment : (place : Place) (path s : List ℕ) → InsertsComment place path s d e → around_in e.value ≤ max (around_in d.value) 0
-  with_comment Above path s h = same 0 h.6.value
-  with_comment After path s h = same 0 h.4.value
+  with_comment Above path s h = same 0 h.6.5
+  with_comment After path s h = same 0 h.4.5
 
   does_keep : (op : texts.Operation) → Does d op e → around_in e.value ≤ max (around_in d.value) (needs d.value op)
   does_keep texts.nothing h = same 0 h.1.0

@@ -12,16 +12,13 @@ use Rattle.jsonc_run.specs.texts.Layout.{Layout, laid_text}
 use Rattle.jsonc_run.specs.texts.Leaving.{Leaves}
 use Rattle.jsonc_run.specs.texts.Edits as texts
 use Rattle.jsonc_run.specs.texts.Edits.{Does, LosesTrailing, Makes, NoBlankComes, Operation, SetsCommas, is_odd_blank, marks_written, text_of_marks}
-use Rattle.jsonc_run.proofs.lemmas.promise.BlanksCome.{Lacks, differs, lacks_both, lacks_first, lacks_second, no_blank_comes, seam_lacks, text_lacks}
+use Rattle.jsonc_run.proofs.lemmas.promise.BlanksCome.{Lacks, differs, lacks_both, lacks_first, lacks_second, no_blank_comes, text_lacks}
 
 module _ (c : ℕ) (odd : IsTrue (is_odd_blank c)) where
   leaves_lack : {path : List ℕ} (d e : Document) → Leaves path d e → Lacks c d.text → Lacks c e.text
-  leaves_lack d e (front, blanks, comma, mid, lead, own, trail, more, back, left, right, b, old, new, entry, l1, l2, l3, l4, l5, l6, s1, s2, ahead, gone, behind, parted, marks) h =
-      let h0 = subst (Lacks c) old h in
-      let h1 = lacks_second c comma _ (lacks_second c blanks _ (lacks_second c front _ h0)) in
-      let h2 = lacks_second c more back (lacks_second c trail _ (lacks_second c own _ (lacks_second c lead _ (lacks_second c mid _ h1)))) in
-      subst (Lacks c) (sym new) (lacks_both c front (left ++ (mid ++ (right ++ back))) (lacks_first c front _ h0)
-      (lacks_both c left (mid ++ (right ++ back)) (seam_lacks c odd s1) (lacks_both c mid (right ++ back) (lacks_first c mid _ h1) (lacks_both c right back (seam_lacks c odd s2) h2))))
+  leaves_lack d e (front, blanks, comma, mid, lead, own, trail, more, back, left, right, b, text, l1, l2, l3, l4, l5, l6, l7, ahead, gone, behind, parted, marks) h =
+      let h1 = lacks_second c comma _ (lacks_second c blanks _ (lacks_first c _ back (lacks_second c front _ (subst (Lacks c) text.before h)))) in
+      text_lacks c odd text (lacks_first c mid _ h1) h
 
   trailing_leave : {o : Options} {x y : List ℕ} → LosesTrailing o x y → Lacks c x → Lacks c y
   trailing_leave texts.no_more h = h
@@ -44,8 +41,8 @@ module _ (c : ℕ) (odd : IsTrue (is_odd_blank c)) where
   comment_lacks : (path comment : List ℕ) (d e : Document) → ComesBehind path comment d e → Lacks c comment → Lacks c d.text → Lacks c e.text
   comment_lacks path comment d e (front, own, trail, back, comes, is_trail, entry) k h =
       let before : List ℕ = front ++ (own ++ trail) in
-      let h0 = subst (Lacks c) comes.old_text h in
-      subst (Lacks c) (sym comes.new_text) (lacks_both c before (0x20 ∷ (comment ++ back)) (lacks_first c before back h0)
+      let h0 = subst (Lacks c) comes.1 h in
+      subst (Lacks c) (sym comes.2) (lacks_both c before (0x20 ∷ (comment ++ back)) (lacks_first c before back h0)
       (differs c odd 0x20 refl, lacks_both c comment back k (lacks_second c before back h0)))
 
 -- an operation that writes no line of its own, and no value in a layout

@@ -10,7 +10,6 @@ use Rattle.jsonc_run.specs.texts.Entries.{Named}
 use Rattle.jsonc_text.specs.Options.{Options}
 use Rattle.jsonc_run.specs.texts.Paths.{an_array, an_object}
 use Rattle.jsonc_text.specs.Plain.{Plain}
-use Rattle.jsonc_text.proofs.UniqueValues.{document_unique}
 use Rattle.jsonc_tree.specs.OrderedTree.{OrderedTree, Top}
 use Rattle.jsonc_tree.specs.Values.{DocumentValueOf}
 use Rattle.jsonc_sound.specs.Shape.{printed_text}
@@ -27,8 +26,9 @@ use Rattle.jsonc_text.specs.declared.edit.Shape.TheVariants.{Object, Array}
 use Rattle.jsonc_edit.specs.set.Shapes.{empty_of}
 use Rattle.jsonc_edit.specs.remove.Laws.{ValueTaken}
 use Rattle.jsonc_edit.proofs.lemmas.remove.RemovedValue.{removes_value}
+use Rattle.jsonc_edit.proofs.OneValue.{document_once}
 use Rattle.jsonc_run.specs.Edits.{PlainEdit, set_root, clear_root, remove_comment, set_commas, set_some_commas, ensure_root, ensure_value, append_element, append_property, ensure_property, IsOfCharacters}
-use Rattle.jsonc_run.specs.Steps.{Says, Step, Steps, no_step, one_step}
+use Rattle.jsonc_run.specs.Steps.{Step, Steps, no_step, one_step}
 use Rattle.jsonc_run.specs.Named.{ensures_root, may_stay, sets_root, Asks, comment_count, IsNamed}
 use Rattle.jsonc_run.proofs.EnsuredValues.{kept_or_emptied}
 use Rattle.jsonc_run.specs.Written.{IsChanged, by_boolean, by_comment, by_inserting, by_nothing, EntryRemoved, IsTold, entry_left, value_left}
@@ -39,6 +39,7 @@ use Rattle.jsonc_run.proofs.lemmas.promise.Commenting.{comment_leaves, comments_
 use Rattle.jsonc_run.proofs.lemmas.promise.CommentsCome.{remark_put}
 use Rattle.jsonc_sound.specs.Adjacent.{last_printed}
 use Rattle.jsonc_sound.specs.Booleans.{is_hex_leaf}
+use Rattle.jsonc_sound.specs.Edited.{Says}
 use Rattle.jsonc_run.proofs.lemmas.promise.Inserting.{gained, in_place, gains_so}
 use Rattle.jsonc_run.proofs.lemmas.promise.Lines as lines
 use Rattle.jsonc_run.proofs.lemmas.promise.Lines.{some_commas_made, multiline_made}
@@ -77,7 +78,7 @@ comment_made o t u w x n s =
 removal_made : (o : Options) (t u : OrderedTree) (w x : Option Plain) {path : List ℕ} → Says o t w → Says o u x → EntryRemoved t u path → Does (document_of o t w) (texts.remove path) (document_of o u x)
 removal_made o t u w x old new (entry_left path i top taken) = entry_removed o old.sound new.sound w x old.value new.value path i top taken
 removal_made o t u w x old new (value_left top taken) =
-    let none : x ≡ None = document_unique o (printed_text u) x None new.text (removes_value o t u top old.sound taken).new_text in
+    let none : x ≡ None = document_once o u x None new.value (removes_value o t u top old.sound taken).new.value in
     (root_made o w x old.sound new.sound taken, leaving.all none)
 
 boolean_made : (o : Options) {t u : OrderedTree} {w x : Option Plain} {path : List ℕ} {b : Bool} → SoundTree o t → SoundTree o u → IsChanged w (texts.set_boolean path b) x → (given : ReplacesValue path (Plain.boolean b) t u) → given.seams.behind ≡ false → (b ≡ true → given.seams.before ≡ false)

@@ -6,7 +6,6 @@ use Rattle.jsonc_run.specs.texts.Edits.{Operation, Makes, Run, SetsCommas}
 use Rattle.jsonc_text.specs.Grammar.{IsDocument}
 use Rattle.jsonc_text.specs.Plain.{Plain}
 use Rattle.jsonc_text.specs.Options.{Options}
-use Rattle.jsonc_text.proofs.UniqueValues.{document_unique}
 use Rattle.jsonc_tree.specs.OrderedTree.{OrderedTree, ordered_tree}
 use Rattle.jsonc_tree.specs.Tree.{Node}
 use Rattle.jsonc_sound.specs.Shape.{printed_text}
@@ -17,7 +16,6 @@ use Rattle.jsonc_text.specs.declared.edit.TrailingCommaMode.{TrailingCommaMode}
 use Rattle.jsonc_edit.specs.commas.Laws.{allowing, SaysTheSame}
 use Rattle.jsonc_run.specs.Edits.{set_commas, set_some_commas}
 use Rattle.jsonc_run.specs.Written.{IsChangedAt}
-use Rattle.jsonc_run.proofs.SoundChain.{says}
 use Rattle.jsonc_run.specs.promise.Steps.{IsStepOf}
 use Rattle.jsonc_run.proofs.lemmas.promise.BlanksStay.{makes_in_place}
 use Rattle.jsonc_run.proofs.lemmas.promise.Lines.{AreSet, commas_made, some_commas_made}
@@ -41,20 +39,18 @@ module _ (mode : TrailingCommaMode) (old new : List Node) (same : (o : Options) 
   commas_run : (path : List ℕ) → Place path → (op : Operation) → ((o : Options) → allowing mode o ≡ texts.options_behind o op) → IsMade path op → (d : Document) → Shows d t → (e : Document) × Shows e u × Run d (op ∷ []) e
   commas_run path place op behind makes d shown =
       let o : Options = d.options in
-      let was = says o t shown.sound in
       let kept = same o shown.sound in
-      let now = says (allowing mode o) u kept.sound in
-      let value : d.value ≡ was.0 = document_once o t d.value was.0 shown.value was.1.value in
-      let first : was.0 ≡ kept.value = document_unique o (printed_text t) was.0 kept.value was.1.text kept.old_text in
-      let second : now.0 ≡ kept.value = document_unique (allowing mode o) (printed_text u) now.0 kept.value now.1.text kept.new_text in
-      let d2 : Document = document_of o t was.0 in
-      let e : Document = document_of (allowing mode o) u now.0 in
+      let was = kept.is.old in
+      let now = kept.is.new in
+      let value : d.value ≡ kept.is.before = document_once o t d.value kept.is.before shown.value was.value in
+      let d2 : Document = document_of o t kept.is.before in
+      let e : Document = document_of (allowing mode o) u kept.is.after in
       let is : d2 ≡ d = ap (λ w. document_of o t w) (sym value) ∙ sym shown.is in
-      let sets : SetsCommas path mode d2 e = some_commas_made o t u was.0 now.0 path mode shown.sound kept.sound (second ∙ sym first) kept.marks kept.commas place in
-      let made : Makes d2 op e = makes o was.0 now.0 shown.sound kept.sound now.1.text sets in
+      let sets : SetsCommas path mode d2 e = some_commas_made o t u kept.is.before kept.is.after path mode was.sound now.sound kept.is.value kept.is.marks kept.commas place in
+      let made : Makes d2 op e = makes o kept.is.before kept.is.after was.sound now.sound now.text sets in
       let run : Run d2 (op ∷ []) e =
-      texts.one_made (is_one o t was.0 shown.sound was.1.text) (behind o) made (texts.none_made (is_one (allowing mode o) u now.0 kept.sound now.1.text)) in
-      (e, record { sound = kept.sound; value = now.1.value; is = refl }, subst (λ x. Run x (op ∷ []) e) is run)
+      texts.one_made (is_one o t kept.is.before was.sound was.text) (behind o) made (texts.none_made (is_one (allowing mode o) u kept.is.after now.sound now.text)) in
+      (e, record { sound = now.sound; value = now.value; is = refl }, subst (λ x. Run x (op ∷ []) e) is run)
 
   pub commas_lead : (path : List ℕ) → Place path → ((o : Options) → SoundTree o t → AreSet mode o path t u) → IsStepOf (set_commas path mode) old new
   commas_lead path place set = λ d shown fit.

@@ -117,17 +117,16 @@ module _ (o : Options) where
         ∙ ap (λ l. marks_in (front ++ g.before) ++ l) (sym (marks_in_both g.behind back ∙ ap (λ l. all_marks l ++ marks_in back) (blanks_unmarked g.behind g.blanks_behind)))
 
     pub comes_between : (w : Option Plain) → ComesBetween (chars text) (text_of_leaves g.before) (text_of_leaves g.behind) (text_of_leaves front) (text_of_leaves back) (document_of o t w) (document_of o u w)
-    comes_between w =
-        record {
-          whole = whole;
-          old_text = old_text;
-          new_text = new_text;
-          blanks_before = blanks_text o g.before g.blanks_before (good_second o front g.before ahead_good).pieces;
-          blanks_behind = blanks_text o g.behind g.blanks_behind behind_good.pieces;
-          value = refl;
-          mark = tree_marks.trimmed (chars text);
-          marks = (marks_in (front ++ g.before), marks_in (g.behind ++ back), parted o r w (front ++ g.before) own (g.behind ++ back) parts refl from_text to_text, around);
-        }
+    comes_between w = (
+      whole,
+      old_text,
+      new_text,
+      blanks_text o g.before g.blanks_before (good_second o front g.before ahead_good).pieces,
+      blanks_text o g.behind g.blanks_behind behind_good.pieces,
+      refl,
+      tree_marks.trimmed (chars text),
+      (marks_in (front ++ g.before), marks_in (g.behind ++ back), parted o r w (front ++ g.before) own (g.behind ++ back) parts refl from_text to_text, around),
+    )
 
     pub comes_above : (path : List ℕ) (w : Option Plain) (node before behind : List Content) → StandsAbove g node before behind
         → Entry path o (printed_text t) (text_of_leaves (node ++ behind)) (text_of_leaves behind) → ComesAbove path (chars text) (document_of o t w) (document_of o u w)

@@ -17,7 +17,7 @@ above_in_text o old new text tree s allowed is path n at comes =
     let m = entry_between old tree path n at in
     let here = entry_here o old tree s path n at m.first m.last m.stands in
     let g = gains_above old new n text tree comes entry.container entry.parent m.first m.last m.stands in
-    (done.sound, λ w. comes_above o s done.sound is.1 g.0 path w (leaves_of (top_at old n)) m.first m.last g.1 here)
+    (done.new.sound, λ w. comes_above o s done.new.sound is.1 g.0 path w (leaves_of (top_at old n)) m.first m.last g.1 here)
 
 pub behind_in_text : (o : Options) (old new : List Node) (text : List ℕ) → BehindInText o old new text
 behind_in_text o old new text tree s allowed is path n at line comes =
@@ -26,4 +26,4 @@ behind_in_text o old new text tree s allowed is path n at line comes =
     let m = entry_between old tree path n at in
     let here = entry_here o old tree s path n at m.first m.last m.stands in
     let g = gains_behind old new n text tree comes entry m.first m.last m.stands in
-    (done.sound, λ w. comes_behind o s done.sound is.1 g.0 path w (leaves_of (top_at old n)) m.first m.last g.1 here)
+    (done.new.sound, λ w. comes_behind o s done.new.sound is.1 g.0 path w (leaves_of (top_at old n)) m.first m.last g.1 here)

@@ -69,7 +69,7 @@ module _ (o : Options) where
       subst (λ l. Entry (path ++ i ∷ []) o (printed_text t) l (text_of_leaves (c ++ b))) (sym (own_joined (f ++ g) own (c ++ b) utf8)) from
   entry_stands s (a_property {held = held} path i {t = t} {f = f} {b = b} h) =
       let m = property_printed o s h in
-      subst (λ l. Entry (path ++ i ∷ []) o (printed_text t) l (text_of_leaves b)) (sym (own_joined f (leaves_of (property_of held)) b m.utf8)) m.stands
+      subst (λ l. Entry (path ++ i ∷ []) o (printed_text t) l (text_of_leaves b)) (sym (own_joined f (leaves_of (property_of held)) b m.good.utf8)) m.stands
 
 -- where the node of an entry stands
 pub record EntryBetween (ns : List Node) (path : List ℕ) (n : ℕ) : Type 0 where

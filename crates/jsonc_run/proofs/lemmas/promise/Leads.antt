@@ -7,11 +7,13 @@ use Rattle.jsonc_text.specs.Plain.{Plain}
 use Rattle.jsonc_tree.specs.OrderedTree.{OrderedTree, ordered_tree}
 use Rattle.jsonc_tree.specs.Tree.{Node}
 use Rattle.jsonc_sound.specs.Documents.{document_of}
+use Rattle.jsonc_sound.specs.Edited.{Says}
 use Rattle.jsonc_edit.proofs.OneValue.{document_once}
+use Rattle.jsonc_edit.proofs.SoundValues.{says}
 use Rattle.jsonc_run.specs.Edits.{PlainEdit}
-use Rattle.jsonc_run.specs.Steps.{Says, Steps, no_step, one_step}
+use Rattle.jsonc_run.specs.Steps.{Steps, no_step, one_step}
 use Rattle.jsonc_run.specs.Written.{options_after}
-use Rattle.jsonc_run.proofs.SoundChain.{makes_steps, says}
+use Rattle.jsonc_run.proofs.SoundChain.{makes_steps}
 use Rattle.jsonc_run.specs.promise.Chains.{EditsLead, NamedRun, ShownAreDocuments}
 use Rattle.jsonc_run.proofs.lemmas.promise.Chains.{steps_are_run}
 use Rattle.jsonc_run.proofs.lemmas.promise.ReplacedTexts.{is_one}

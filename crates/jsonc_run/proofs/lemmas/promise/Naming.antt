@@ -1,5 +1,5 @@
 -- Where a property of a sound tree gets another name, it gets it so in the text.
-use Rattle.std.proofs.Common.{ℕ, suc, ◌<◌, ◌≡◌, ◌∙◌, sym, ap, subst, refl, inl, false, List, [], ◌∷◌, ◌++◌, length, Option, chars, encode_utf8_all}
+use Rattle.std.proofs.Common.{ℕ, suc, ◌<◌, ◌≡◌, ◌∙◌, sym, ap, subst, refl, false, List, [], ◌∷◌, ◌++◌, length, Option, chars, encode_utf8_all}
 use Rattle.std.proofs.lemmas.List.{append-nil}
 use Rattle.std.proofs.lemmas.Str.{chars-encodes}
 use Rattle.jsonc_text.specs.Options.{Options}
@@ -31,13 +31,14 @@ use Rattle.jsonc_run.specs.texts.Paths.{Entry, Name, an_object}
 use Rattle.jsonc_run.specs.texts.Entries.{Named, members, of, Changed}
 use Rattle.jsonc_run.specs.texts.Edits as texts
 use Rattle.jsonc_run.specs.texts.Edits.{Alone, BecomesProperty, Does, Puts}
-use Rattle.jsonc_run.specs.texts.Stretches.{Text}
 use Rattle.jsonc_run.specs.promise.PlaceLaws.{text_of_leaves}
+use Rattle.jsonc_run.proofs.lemmas.promise.Cuts.{Cut, cut_so, puts}
+use Rattle.jsonc_run.proofs.lemmas.promise.Joined.{good_second}
 use Rattle.jsonc_run.proofs.lemmas.promise.Leaves.{row_back, back_of, text_joined, utf8_first, utf8_second}
 use Rattle.jsonc_run.proofs.lemmas.promise.Places.{document_itself, row_itself}
 use Rattle.jsonc_run.proofs.lemmas.promise.Plains.{changed, entry_of, list_of_members, same_members}
 use Rattle.jsonc_run.proofs.lemmas.promise.Properties.{property_printed}
-use Rattle.jsonc_run.proofs.lemmas.promise.Stretches.{Begins, marks_in, parted, parted_as}
+use Rattle.jsonc_run.proofs.lemmas.promise.Stretches.{Begins}
 use Rattle.jsonc_run.proofs.lemmas.promise.Values.{PropertyHere, object_place, at_the_place}
 
 module _ (o : Options) where
@@ -48,7 +49,7 @@ module _ (o : Options) where
       let e = row_itself h.property in
       let z : List ℕ = text_of_leaves (back_of d.changed) in
       let own : List Content = leaves_of (property_of held) in
-      let behind : AllUtf8 (h.beyond ++ h.behind) = subst AllUtf8 h.last (utf8_second own b (utf8_second f (own ++ b) (property_printed o s h).utf8)) in
+      let behind : AllUtf8 (h.beyond ++ h.behind) = subst AllUtf8 h.last (utf8_second own b (good_second o f (own ++ b) (property_printed o s h).good).utf8) in
       let same : text_of_leaves (row_back e.changed) ++ z ≡ text_of_leaves b =
       ap (λ l. text_of_leaves l ++ z) e.last ∙ ap (λ l. text_of_leaves h.beyond ++ text_of_leaves l) d.last ∙ sym (ap text_of_leaves h.last ∙ text_joined h.beyond h.behind (utf8_first h.beyond h.behind behind)) in
       subst (PropertyHere o held) same (object_place o z e.changed (at_the_place o s d.changed).2).0
@@ -72,68 +73,35 @@ module _ (o : Options) where
           record { called = called.0; behind = printed_text u ++ z; named = called.1; colon = subst (Gap o (printed_text after ++ z)) (ap (λ t. t ++ z) (mark_text colon_mark u)) before.0; own = name_leaf o name (printed_text after) n }
 
   -- the name of a property, in the text between what the leaves around it print
-  record NamePrinted (name : Content) (rest : OrderedTree) (path : List ℕ) (i : ℕ) (t : OrderedTree) (f b : List Content) : Type 0 where
-    whole : leaves t ≡ f ++ ((name ∷ []) ++ (leaves rest ++ b))
-    begins : Begins ((name ∷ []) ++ (leaves rest ++ b))
-    joined : text_of_leaves ((name ∷ []) ++ (leaves rest ++ b)) ≡ text_of_leaves (name ∷ []) ++ text_of_leaves (leaves rest ++ b)
-    text : printed_text t ≡ text_of_leaves f ++ (text_of_leaves (name ∷ []) ++ text_of_leaves (leaves rest ++ b))
-    stands : Name (path ++ i ∷ []) o (printed_text t) (text_of_leaves (name ∷ []) ++ text_of_leaves (leaves rest ++ b)) (text_of_leaves (leaves rest ++ b))
-
-  name_printed : {name : Content} {rest : OrderedTree} {path : List ℕ} {i : ℕ} {t : OrderedTree} {f b : List Content} → SoundTree o t → PropertyHolds (more name none rest) path i t f b → NamePrinted name rest path i t f b
+  name_printed : {name : Content} {rest : OrderedTree} {path : List ℕ} {i : ℕ} {t : OrderedTree} {f b : List Content} → SoundTree o t → PropertyHolds (more name none rest) path i t f b → Cut o (Name (path ++ i ∷ [])) t f (name ∷ []) (leaves rest ++ b)
   name_printed {name} {rest} {path} {i} {t} {f} {b} s h =
       let p = property_printed o s h in
       let n = name_there (held_here s h) in
       let own : List Content = leaves_of (property_of (more name none rest)) in
       let tail : List Content = leaves rest ++ b in
       let same : own ++ b ≡ (name ∷ []) ++ tail = ap (λ l. (l ++ leaves rest) ++ b) n.own in
-      let own_then : AllUtf8 (own ++ b) = utf8_second f (own ++ b) p.utf8 in
+      let own_then : AllUtf8 (own ++ b) = (good_second o f (own ++ b) p.good).utf8 in
       let name_then : AllUtf8 ((name ∷ []) ++ tail) = subst AllUtf8 same own_then in
       let behind : printed_text rest ++ text_of_leaves b ≡ text_of_leaves tail = sym (text_joined (leaves rest) b (utf8_first (leaves rest) b (utf8_second (name ∷ []) tail name_then))) in
       let joined : text_of_leaves ((name ∷ []) ++ tail) ≡ text_of_leaves (name ∷ []) ++ text_of_leaves tail = text_joined (name ∷ []) tail (utf8_first (name ∷ []) tail name_then) in
       let parts : text_of_leaves own ++ text_of_leaves b ≡ text_of_leaves (name ∷ []) ++ text_of_leaves tail = sym (text_joined own b (utf8_first own b own_then)) ∙ ap text_of_leaves same ∙ joined in
       let name_text : chars (text_of name) ≡ text_of_leaves (name ∷ []) = ap chars (sym (append-nil (text_of name))) in
-      record {
-        whole = p.whole ∙ ap (λ l. f ++ l) same;
-        begins = subst Begins same p.begins;
-        joined = joined;
-        text = p.text ∙ ap (λ l. text_of_leaves f ++ l) parts;
-        stands = (
-          n.called,
-          text_of_leaves b,
-          n.behind,
-          subst (λ l. Entry (path ++ i ∷ []) o (printed_text t) l (text_of_leaves b)) parts p.stands,
-          subst (λ l. IsName o (l ++ text_of_leaves tail) n.called (text_of_leaves tail)) name_text (subst (λ l. IsName o (chars (text_of name) ++ l) n.called l) behind n.named),
-          subst (λ l. Gap o l (0x3A ∷ n.behind)) behind n.colon,
-        );
-      }
+      cut_so o s (p.whole ∙ ap (λ l. f ++ l) same) (subst Begins same p.begins) (
+        n.called,
+        text_of_leaves b,
+        n.behind,
+        subst (λ l. Entry (path ++ i ∷ []) o (printed_text t) l (text_of_leaves b)) parts p.stands,
+        subst (λ l. IsName o (l ++ text_of_leaves tail) n.called (text_of_leaves tail)) name_text (subst (λ l. IsName o (chars (text_of name) ++ l) n.called l) behind n.named),
+        subst (λ l. Gap o l (0x3A ∷ n.behind)) behind n.colon,
+      )
 
   name_puts : {path : List ℕ} {i : ℕ} {was : Content} {rest : OrderedTree} {t u : OrderedTree} {f b : List Content} (name : List ℕ) → IsCharacters name → (w x : Option Plain) → SoundTree o t → SoundTree o u → PropertyHolds (more was none rest) path i t f b
       → PropertyHolds (more (string_leaf name) none rest) path i u f b → Puts Alone (Name (path ++ i ∷ [])) (λ s. s ≡ spelled name) (Mark.literal (spelled name) ∷ []) (document_of o t w) (document_of o u x)
-  name_puts {was = was} {rest = rest} {t = t} {u = u} {f = f} {b = b} name texts w x s r h k =
-      let first = name_printed s h in
-      let second = name_printed r k in
+  name_puts {path = path} {i = i} {was = was} {rest = rest} {t = t} {u = u} {f = f} {b = b} name texts w x s r h k =
       let tail : List Content = leaves rest ++ b in
-      let old_own : List ℕ = text_of_leaves (was ∷ []) in
-      let new_own : List ℕ = text_of_leaves (string_leaf name ∷ []) in
       let written : chars (encode_utf8_all (spelled name)) ≡ spelled name = chars-encodes (spelled name) (spelled_characters name texts) in
-      let text : Text (text_of_leaves f) old_own [] new_own [] (text_of_leaves tail) (document_of o t w) (document_of o u x) = record { before = first.text; after = second.text; sides = (inl refl, inl refl) } in (
-        text_of_leaves f,
-        old_own,
-        [],
-        new_own,
-        [],
-        text_of_leaves tail,
-        text,
-        (refl, refl),
-        ap chars (append-nil (encode_utf8_all (spelled name))) ∙ written,
-        first.stands,
-        second.stands,
-        marks_in f,
-        marks_in (was ∷ []),
-        marks_in tail,
-        parted o s w f (was ∷ []) tail first.whole first.begins first.joined refl,
-        parted_as refl (ap (λ l. Mark.literal l ∷ []) written) refl (parted o r x f (string_leaf name ∷ []) tail second.whole second.begins second.joined refl),
-      )
+      let second : Cut o (Name (path ++ i ∷ [])) u (f ++ []) (string_leaf name ∷ []) tail = subst (λ l. Cut o (Name (path ++ i ∷ [])) u l (string_leaf name ∷ []) tail) (sym (append-nil f)) (name_printed r k) in
+      puts o s r f (was ∷ []) (string_leaf name ∷ []) [] tail false false tt (name_printed s h) second w x (Mark.literal (spelled name) ∷ []) (ap (λ l. Mark.literal l ∷ []) written) (ap chars (append-nil (encode_utf8_all (spelled name))) ∙ written) (refl, refl) (λ e. cc) (λ e. cc)
 
 -- of the value the property has another name
 record MemberNamed (name : List ℕ) (i : ℕ) (ms ns : Members) : Type 0 where

@@ -1,6 +1,6 @@
 -- Where a property is replaced by another in a sound tree, it is replaced so in the text.
-use Rattle.std.proofs.Common.{ℕ, suc, ◌≡◌, ◌∙◌, sym, ap, subst, refl, inl, true, List, [], ◌∷◌, ◌++◌, length, IsTrue, Option, None}
-use Rattle.std.proofs.lemmas.List.{append_assoc}
+use Rattle.std.proofs.Common.{ℕ, suc, ◌≡◌, ◌∙◌, sym, ap, subst, refl, true, false, List, [], ◌∷◌, ◌++◌, length, IsTrue, Option, None}
+use Rattle.std.proofs.lemmas.List.{append_assoc, append-nil}
 use Rattle.jsonc_text.specs.Options.{Options}
 use Rattle.jsonc_text.specs.Plain as plain
 use Rattle.jsonc_text.specs.Plain.{Plain, Members, member}
@@ -12,8 +12,8 @@ use Rattle.jsonc_sound.specs.SoundTrees.{SoundTree}
 use Rattle.jsonc_sound.specs.TreeChanges.{IsElement, leaves_of, property_of, ElementChanged, this_element, passed, later_element}
 use Rattle.jsonc_sound.specs.Values as replaced
 use Rattle.jsonc_sound.specs.Values.{MemberReplaced}
-use Rattle.jsonc_sound.proofs.NodesAlone.{document_alone, value_alone}
-use Rattle.jsonc_sound.proofs.Pieces.{Pieces, document_pieces}
+use Rattle.jsonc_sound.proofs.NodesAlone.{value_alone}
+use Rattle.jsonc_sound.proofs.Pieces.{Pieces}
 use Rattle.jsonc_sound.proofs.HeldValues.{document_held}
 use Rattle.jsonc_sound.proofs.Texts.{AllUtf8}
 use Rattle.jsonc_run.specs.Written.{IsChanged, by_property, ReplacesProperty, property_given}
@@ -30,9 +30,11 @@ use Rattle.jsonc_layout.specs.from_input.Texts.{IsCharacters, IsOfTexts}
 use Rattle.jsonc_run.specs.texts.Paths.{Entry, an_object}
 use Rattle.jsonc_run.specs.texts.Entries.{Named, members, of, Changed}
 use Rattle.jsonc_run.specs.texts.Edits as texts
-use Rattle.jsonc_run.specs.texts.Stretches.{written, IsSeam, Text}
+use Rattle.jsonc_run.specs.texts.Stretches.{written}
 use Rattle.jsonc_run.specs.texts.Edits.{Anything, BecomesProperty, Makes, Puts, is_odd_blank, text_of_marks}
 use Rattle.jsonc_run.specs.promise.PlaceLaws.{text_of_leaves}
+use Rattle.jsonc_run.proofs.lemmas.promise.Cuts as cuts
+use Rattle.jsonc_run.proofs.lemmas.promise.Cuts.{Cut, cut_so, own_good, own_spelled, rest_begins}
 use Rattle.jsonc_run.proofs.lemmas.promise.Leaves.{back_of, document_parts, document_utf8, text_joined, utf8_first, utf8_second}
 use Rattle.jsonc_run.specs.texts.Layout.{IsLaidEntry}
 use Rattle.jsonc_run.proofs.lemmas.promise.LaidTexts.{in_text, is_laid_property, laid_prints, named_so, node_text}
@@ -43,9 +45,9 @@ use Rattle.jsonc_run.proofs.lemmas.promise.Plains.{changed, entry_of, list_of_me
 use Rattle.jsonc_run.proofs.lemmas.promise.StretchElements.{Reached}
 use Rattle.jsonc_run.proofs.lemmas.promise.RemovedTexts.{entry_begins, entry_there}
 use Rattle.jsonc_sound.specs.Documents.{document_of}
-use Rattle.jsonc_run.proofs.lemmas.promise.Stretches.{Begins, laid_property_literals, marks_in, parted, parted_as, pieces_first, pieces_second, seam_unmarked}
-use Rattle.jsonc_run.proofs.lemmas.promise.Places.{document_itself, silent_then, seam_if, seam_then}
-use Rattle.jsonc_run.proofs.lemmas.promise.Bare.{AllSpelled, BeginsBare, EndsBareWith, begins_so, ends_behind, ends_with, meets, seam_due, spelled, spelled_first, spelled_second}
+use Rattle.jsonc_run.proofs.lemmas.promise.Stretches.{laid_property_literals, marks_in}
+use Rattle.jsonc_run.proofs.lemmas.promise.Places.{document_itself}
+use Rattle.jsonc_run.proofs.lemmas.promise.Bare.{EndsBareWith, ends_with}
 
 -- the leaves of a row with an element in it
 pub held_leaves : {top : Top} {i : ℕ} {row : OrderedTree} {f b : List Content} → RowHolds top i row f b → leaves row ≡ f ++ (leaves_of top ++ b)
@@ -80,14 +82,7 @@ property_ends layout name (plain.number n) e = record { front = ahead_of_value n
 property_ends layout name v e = cc
 
 module _ (o : Options) where
-  pub record PropertyPrinted (held : OrderedTree) (path : List ℕ) (i : ℕ) (t : OrderedTree) (f b : List Content) : Type 0 where
-    pub whole : leaves t ≡ f ++ (leaves_of (property_of held) ++ b)
-    pub begins : Begins (leaves_of (property_of held) ++ b)
-    pub utf8 : AllUtf8 (f ++ (leaves_of (property_of held) ++ b))
-    pub text : printed_text t ≡ text_of_leaves f ++ (text_of_leaves (leaves_of (property_of held)) ++ text_of_leaves b)
-    pub stands : Entry (path ++ i ∷ []) o (printed_text t) (text_of_leaves (leaves_of (property_of held)) ++ text_of_leaves b) (text_of_leaves b)
-
-  pub property_printed : {held : OrderedTree} {path : List ℕ} {i : ℕ} {t : OrderedTree} {f b : List Content} → SoundTree o t → PropertyHolds held path i t f b → PropertyPrinted held path i t f b
+  pub property_printed : {held : OrderedTree} {path : List ℕ} {i : ℕ} {t : OrderedTree} {f b : List Content} → SoundTree o t → PropertyHolds held path i t f b → Cut o (Entry (path ++ i ∷ [])) t f (leaves_of (property_of held)) b
   property_printed {held} {path} {i} {t} {f} {b} s h =
       let own : List Content = leaves_of (property_of held) in
       let d = document_itself h.holder in
@@ -106,90 +101,21 @@ module _ (o : Options) where
       let u2 : AllUtf8 (h.beyond ++ h.behind) = subst AllUtf8 h.last (utf8_second own b u1) in
       let behind : text_of_leaves h.beyond ++ text_of_leaves (back_of m.changed) ≡ text_of_leaves b =
       ap (λ l. text_of_leaves h.beyond ++ text_of_leaves l) m.last ∙ sym (ap text_of_leaves h.last ∙ text_joined h.beyond h.behind (utf8_first h.beyond h.behind u2)) in
-      record {
-        whole = all;
-        begins = entry_begins o of_properties s m.changed (reached inner.1) b;
-        utf8 = utf8;
-        text = ap text_of_leaves all ∙ text_joined f (own ++ b) (utf8_first f (own ++ b) utf8) ∙ ap (λ l. text_of_leaves f ++ l) (text_joined own b (utf8_first own b u1));
-        stands = subst (λ l. Entry (path ++ i ∷ []) o (printed_text t) (text_of_leaves own ++ l) l) behind (entry_there o of_properties s m.changed (reached inner.1));
-      }
+      cut_so o s all (entry_begins o of_properties s m.changed (reached inner.1) b) (subst (λ l. Entry (path ++ i ∷ []) o (printed_text t) (text_of_leaves own ++ l) l) behind (entry_there o of_properties s m.changed (reached inner.1)))
 
-  module _ {path : List ℕ} {i : ℕ} {was now t u : OrderedTree} (s : SoundTree o t) (r : SoundTree o u) (g : PropertyReplacedWithSeam path i was now t u) where
-    abbrev old_own : List ℕ
-    old_own = text_of_leaves (leaves_of (property_of was))
-
-    abbrev new_own : List ℕ
-    new_own = text_of_leaves (leaves_of (property_of now))
-
-    first : PropertyPrinted was path i t g.front (g.quiet ++ g.rest)
-    first = property_printed s g.stood
-
-    second : PropertyPrinted now path i u g.front (g.quiet ++ (space_if g.behind ++ g.rest))
-    second = property_printed r g.stands
-
-    old_back : text_of_leaves (g.quiet ++ g.rest) ≡ text_of_leaves g.rest
-    old_back = silent_then g.quiet g.rest g.silent (utf8_second (leaves_of (property_of was)) (g.quiet ++ g.rest) (utf8_second g.front (leaves_of (property_of was) ++ (g.quiet ++ g.rest)) first.utf8))
-
-    back_utf8 : AllUtf8 (g.quiet ++ (space_if g.behind ++ g.rest))
-    back_utf8 = utf8_second (leaves_of (property_of now)) (g.quiet ++ (space_if g.behind ++ g.rest)) (utf8_second g.front (leaves_of (property_of now) ++ (g.quiet ++ (space_if g.behind ++ g.rest))) second.utf8)
-
-    new_back : text_of_leaves (g.quiet ++ (space_if g.behind ++ g.rest)) ≡ seam_if g.behind ++ text_of_leaves g.rest
-    new_back = seam_then g.quiet g.rest g.behind g.silent back_utf8
-
-    new_spelled : AllSpelled (leaves_of (property_of now))
-    new_spelled =
-        let behind_new : List Content = g.quiet ++ (space_if g.behind ++ g.rest) in
-        spelled_first (leaves_of (property_of now)) behind_new (spelled_second g.front (leaves_of (property_of now) ++ behind_new) (subst AllSpelled second.whole (spelled o r)))
-
-    new_utf8 : AllUtf8 (leaves_of (property_of now))
-    new_utf8 = let behind_new : List Content = g.quiet ++ (space_if g.behind ++ g.rest) in utf8_first (leaves_of (property_of now)) behind_new (utf8_second g.front (leaves_of (property_of now) ++ behind_new) second.utf8)
-
-    -- the space is due where the new property ends with a literal without quotes
-    behind_due : (g.behind ≡ true → EndsBareWith (leaves_of (property_of now))) → IsSeam (text_of_leaves g.front ++ ([] ++ new_own)) (text_of_leaves g.rest) (seam_if g.behind)
-    behind_due bare = seam_due g.behind (λ e.
-        let old : List Content = leaves_of (property_of was) in
-        let was_spelled : AllSpelled (g.front ++ (old ++ (g.quiet ++ g.rest))) = subst AllSpelled first.whole (spelled o s) in
-        let begins = begins_so (g.quiet ++ g.rest) (utf8_second old (g.quiet ++ g.rest) (utf8_second g.front (old ++ (g.quiet ++ g.rest)) first.utf8)) (spelled_second old (g.quiet ++ g.rest) (spelled_second g.front (old ++ (g.quiet ++ g.rest)) was_spelled)) (g.parts_behind o s e) in
-        meets (ends_behind (text_of_leaves g.front) (ends_with (bare e) new_utf8 new_spelled)) (subst BeginsBare old_back begins))
-
-    new_pieces : Pieces o (leaves_of (property_of now))
-    new_pieces =
-        let behind_new : List Content = g.quiet ++ (space_if g.behind ++ g.rest) in
-        pieces_first o (leaves_of (property_of now)) behind_new (pieces_second o g.front (leaves_of (property_of now) ++ behind_new) (subst (Pieces o) second.whole (document_pieces o (document_alone o r.shaped))))
-
-    pub property_puts : (w x : Option Plain) (come : List Mark) → marks_in (leaves_of (property_of now)) ≡ come → {Is : List ℕ → Type 0} → (Pieces o (leaves_of (property_of now)) → AllUtf8 (leaves_of (property_of now)) → Is new_own)
-        → (g.behind ≡ true → EndsBareWith (leaves_of (property_of now))) → Puts Anything (Entry (path ++ i ∷ [])) Is come (document_of o t w) (document_of o u x)
-    property_puts w x come is {Is} laid_so bare =
-        let text : Text (text_of_leaves g.front) old_own [] new_own (seam_if g.behind) (text_of_leaves g.rest) (document_of o t w) (document_of o u x) =
-        record {
-          before = first.text ∙ ap (λ l. text_of_leaves g.front ++ (old_own ++ l)) old_back;
-          after = second.text ∙ ap (λ l. text_of_leaves g.front ++ (new_own ++ l)) new_back;
-          sides = (inl refl, behind_due bare);
-        } in
-        let own : List Content = leaves_of (property_of was) in
-        let old_parted = parted o s w g.front own (g.quiet ++ g.rest) first.whole first.begins
-        (text_joined own (g.quiet ++ g.rest) (utf8_first own (g.quiet ++ g.rest) (utf8_second g.front (own ++ (g.quiet ++ g.rest)) first.utf8)) ∙ ap (λ l. old_own ++ l) old_back) old_back in
-        let new : List Content = leaves_of (property_of now) in
-        let behind_new : List Content = g.quiet ++ (space_if g.behind ++ g.rest) in
-        let new_parted = parted o r x g.front new behind_new second.whole second.begins
-        (text_joined new behind_new (utf8_first new behind_new (utf8_second g.front (new ++ behind_new) second.utf8)) ∙ ap (λ l. new_own ++ l) new_back) new_back in (
-          text_of_leaves g.front,
-          old_own,
-          [],
-          new_own,
-          seam_if g.behind,
-          text_of_leaves g.rest,
-          text,
-          tt,
-          laid_so new_pieces new_utf8,
-          subst (λ l. Entry (path ++ i ∷ []) o (printed_text t) (old_own ++ l) l) old_back first.stands,
-          subst (λ l. Entry (path ++ i ∷ []) o (printed_text u) (new_own ++ l) l) new_back second.stands,
-          marks_in g.front,
-          marks_in own,
-          marks_in (g.quiet ++ g.rest),
-          old_parted,
-          parted_as refl is (seam_unmarked g.quiet g.behind g.rest) new_parted,
-        )
+  pub property_puts : {path : List ℕ} {i : ℕ} {was now t u : OrderedTree} (s : SoundTree o t) (r : SoundTree o u) (g : PropertyReplacedWithSeam path i was now t u) (w x : Option Plain) (come : List Mark) → marks_in (leaves_of (property_of now)) ≡ come
+      → {Is : List ℕ → Type 0} → (Pieces o (leaves_of (property_of now)) → AllUtf8 (leaves_of (property_of now)) → Is (text_of_leaves (leaves_of (property_of now))))
+      → (g.behind ≡ true → EndsBareWith (leaves_of (property_of now))) → Puts Anything (Entry (path ++ i ∷ [])) Is come (document_of o t w) (document_of o u x)
+  property_puts {path} {i} {was} {now} {t} {u} s r g w x come is laid_so bare =
+      let old : List Content = leaves_of (property_of was) in
+      let new : List Content = leaves_of (property_of now) in
+      let behind_new : List Content = g.quiet ++ (space_if g.behind ++ g.rest) in
+      let first : Cut o (Entry (path ++ i ∷ [])) t g.front old (g.quiet ++ g.rest) = property_printed s g.stood in
+      let second : Cut o (Entry (path ++ i ∷ [])) u (g.front ++ []) new behind_new = subst (λ l. Cut o (Entry (path ++ i ∷ [])) u l new behind_new) (sym (append-nil g.front)) (property_printed r g.stands) in
+      let own = own_good o s r g.front old new g.quiet g.rest false g.behind g.silent first second in
+      let words = own_spelled o s r g.front old new g.quiet g.rest false g.behind g.silent first second in
+      cuts.puts o s r g.front old new g.quiet g.rest false g.behind g.silent first second w x come is (laid_so own.pieces own.utf8) tt (λ e. cc)
+      (λ e. (ends_with (bare e) own.utf8 words, rest_begins o s r g.front old new g.quiet g.rest false g.behind g.silent first second (g.parts_behind o s e)))
 
 -- of the value the property has been replaced
 record MemberGiven (name : List ℕ) (v : Plain) (i : ℕ) (ms ns : Members) : Type 0 where

@@ -1,10 +1,8 @@
 -- Where an entry leaves a sound tree with spaces at the seams, it leaves the text so.
-use Rattle.std.proofs.Common.{ℕ, ◌+◌, ◌≡◌, ◌≢◌, ◌∙◌, sym, ap, subst, refl, inl, inr, Bool, true, false, List, [], ◌∷◌, ◌++◌, Option, arith}
+use Rattle.std.proofs.Common.{ℕ, ◌+◌, ◌≡◌, ◌⊎◌, ◌≢◌, ◌∙◌, sym, ap, subst, refl, inl, inr, Bool, true, false, List, [], ◌∷◌, ◌++◌, Option, arith}
 use Rattle.std.proofs.lemmas.List.{append_assoc, append-nil}
-use Rattle.std.proofs.lemmas.Str.{chars-nil}
 use Rattle.jsonc_text.specs.Options.{Options}
 use Rattle.jsonc_text.specs.Plain.{Plain}
-use Rattle.jsonc_text.specs.Text as many
 use Rattle.jsonc_tree.specs.Content.{Content, token}
 use Rattle.jsonc_tree.specs.OrderedTree.{OrderedTree, none, leaves, followed_by, Top}
 use Rattle.jsonc_tree.specs.Values.{DocumentValueOf}
@@ -20,7 +18,7 @@ use Rattle.jsonc_sound.specs.Spaces.{first_printed, is_bare_leaf, space_then}
 use Rattle.jsonc_sound.specs.TreeChanges.{IsElement, leaves_of}
 use Rattle.jsonc_sound.specs.TriviaChanges.{leaves_then}
 use Rattle.jsonc_sound.proofs.NodesAlone.{document_alone}
-use Rattle.jsonc_sound.proofs.Pieces.{LinesFlat, Pieces, document_flat, document_pieces}
+use Rattle.jsonc_sound.proofs.Pieces.{LinesFlat, document_flat}
 use Rattle.jsonc_sound.proofs.RowParts.{parted_at, at_comma, past_leaves, beside_trivia, rest_trivia, between_trivia, line_trivia}
 use Rattle.jsonc_sound.proofs.SeamStretches.{parted_row}
 use Rattle.jsonc_sound.proofs.Spaces.{first_append, last_append}
@@ -40,16 +38,16 @@ use Rattle.jsonc_run.specs.promise.PlaceLaws.{text_of_leaves}
 use Rattle.jsonc_run.proofs.lemmas.promise.CommentTexts.{blanks_text}
 use Rattle.jsonc_run.proofs.lemmas.promise.Joined.{Good, good_as, good_first, good_second, good_tree}
 use Rattle.jsonc_run.proofs.lemmas.promise.LeafEnds.{flat_behind}
-use Rattle.jsonc_run.proofs.lemmas.promise.Leaves.{back_of, document_parts, document_utf8, text_joined, utf8_first, utf8_second}
+use Rattle.jsonc_run.proofs.lemmas.promise.Leaves.{back_of, document_parts, document_utf8, utf8_first, utf8_second}
 use Rattle.jsonc_run.proofs.lemmas.promise.NothingBehind.{row_comment, row_line, row_stops, stops}
-use Rattle.jsonc_run.proofs.lemmas.promise.NothingBeside.{Apart, apart_behind, nothing_beside, token_apart, with_token}
+use Rattle.jsonc_run.proofs.lemmas.promise.NothingBeside.{Apart, apart_behind, token_apart, with_token, none_beside}
 use Rattle.jsonc_run.proofs.lemmas.promise.RemovedEntries.{loses_value}
 use Rattle.jsonc_run.proofs.lemmas.promise.StretchElements.{renumber, rest_as, Reached, at_first, past_comma, past_row}
 use Rattle.jsonc_run.proofs.lemmas.promise.StretchElements as reaching
 use Rattle.jsonc_run.proofs.lemmas.promise.CommasLeft.{Which, the_one_behind, one_before, none_there, comma_so}
-use Rattle.jsonc_run.proofs.lemmas.promise.RemovedTexts.{Commas, behind_it, ahead_of_it, nowhere, none_more, text_cons, comma_unmarked, entry_begins, entry_there, gone_parted, rest_pieces, pieces_first, pieces_second}
-use Rattle.jsonc_run.proofs.lemmas.promise.Stretches.{blanks_behind_unmarked, marks_in, marks_in_both, seam_unmarked}
-use Rattle.jsonc_sound.specs.Documents.{document_of}
+use Rattle.jsonc_run.proofs.lemmas.promise.RemovedTexts.{Commas, behind_it, ahead_of_it, nowhere, none_more, text_cons, comma_unmarked, entry_begins, entry_there, gone_parted, rest_pieces}
+use Rattle.jsonc_run.proofs.lemmas.promise.Stretches.{marks_in, marks_in_both, seam_unmarked, Begins}
+use Rattle.jsonc_sound.specs.Documents.{document_of, all_marks}
 use Rattle.jsonc_run.proofs.lemmas.promise.Trails.{CommasLeft, NoneLeft, trail_text}
 use Rattle.jsonc_run.proofs.lemmas.promise.Trivia.{beside_text}
 use Rattle.jsonc_run.proofs.lemmas.promise.Closing.{blanks_first, blanks_second, split, row_some, container_row, no_elements, count_followed, blanks_count, left_blanks}
@@ -57,19 +55,20 @@ use Rattle.jsonc_run.proofs.lemmas.promise.Values.{at_the_place}
 use Rattle.jsonc_sound.specs.Rows.{Last, an_element, nothing_yet}
 use Rattle.jsonc_sound.proofs.WithoutValue.{among_leaves}
 use Rattle.jsonc_sound.proofs.SeamRows.{container_leaves}
+use Rattle.jsonc_sound.proofs.ReplacedStretches.{blanks_unmarked}
 use Rattle.jsonc_edit.proofs.SeamsParting.{bare_first}
 use Rattle.jsonc_run.proofs.lemmas.promise.Places.{DocumentItself, document_itself, silent_then, seam_if, seam_then}
 use Rattle.jsonc_run.proofs.lemmas.promise.Bare.{AllSpelled, BeginsBare, EndsBare, begins_before, begins_so, ends_so, meets, seam_due, spelled, spelled_first, spelled_second}
 
 -- the second leaves are the first with a space directly before what is printed first, or none: one where that is a literal without quotes, and so is what is printed
 -- last ahead of them
-record SeamIn (ahead xs ys : List Content) (b : Bool) : Type 0 where
-  quiet : List Content
-  rest : List Content
-  was : xs ≡ quiet ++ rest
-  is : ys ≡ quiet ++ (space_if b ++ rest)
-  silent : PrintNothing quiet
-  due : b ≡ true → (is_bare_leaf (last_printed ahead) ≡ true) × (is_bare_leaf (first_printed rest) ≡ true)
+pub record SeamIn (ahead xs ys : List Content) (b : Bool) : Type 0 where
+  pub quiet : List Content
+  pub rest : List Content
+  pub was : xs ≡ quiet ++ rest
+  pub is : ys ≡ quiet ++ (space_if b ++ rest)
+  pub silent : PrintNothing quiet
+  pub due : b ≡ true → (is_bare_leaf (last_printed ahead) ≡ true) × (is_bare_leaf (first_printed rest) ≡ true)
 
 never : {A : Type 0} → false ≡ true → A
 never e = cc
@@ -123,25 +122,35 @@ alone_seam {ahead} {x} {y} s =
     let m = row_seam [] s in
     (m.0, subst (λ l. SeamIn ahead l (leaves y) m.0) (append-nil (leaves x)) (subst (λ l. SeamIn ahead (leaves x ++ []) l m.0) (append-nil (leaves y)) m.1))
 
-no_seam : (ahead : List Content) → SeamIn ahead [] [] false
-no_seam ahead = record { quiet = []; rest = []; was = refl; is = refl; silent = tt; due = never }
+pub same_seam : (ahead xs : List Content) → SeamIn ahead xs xs false
+same_seam ahead xs = record { quiet = []; rest = xs; was = refl; is = refl; silent = tt; due = never }
 
--- the leaves of two trees, in stretches
-record Stretches (t u : OrderedTree) (own : List Content) : Type 0 where
-  front : List Content
-  comma : List Content
-  mid : List Content
-  lead : List Content
-  trail : List Content
-  back : List Content
-  mid_now : List Content
-  back_now : List Content
-  left : Bool
-  right : Bool
-  before : leaves t ≡ front ++ (comma ++ (mid ++ (lead ++ (own ++ (trail ++ back)))))
-  after : leaves u ≡ front ++ (mid_now ++ back_now)
-  at_comma : SeamIn front mid mid_now left
-  at_entry : SeamIn (front ++ mid_now) back back_now right
+-- The leaves of two trees in stretches, where an entry is removed: with it at most one comma, comments beside it, and blanks; what stays is `front`, `mid` and `back`,
+-- with spaces at the seams.
+pub record Stretches (t u : OrderedTree) (own : List Content) : Type 0 where
+  pub front : List Content
+  pub blanks : List Content
+  pub comma : List Content
+  pub mid : List Content
+  pub lead : List Content
+  pub trail : List Content
+  pub more : List Content
+  pub back : List Content
+  pub mid_now : List Content
+  pub back_now : List Content
+  pub left : Bool
+  pub right : Bool
+  pub with_comma : Bool
+  pub before : leaves t ≡ front ++ (blanks ++ (comma ++ (mid ++ (lead ++ (own ++ (trail ++ (more ++ back)))))))
+  pub after : leaves u ≡ front ++ (mid_now ++ back_now)
+  pub at_comma : SeamIn front mid mid_now left
+  pub at_entry : SeamIn (front ++ mid_now) back back_now right
+  pub are_blanks : AreBlanks blanks
+  pub are_more : AreBlanks more
+  pub beside : AreInlineTrivia lead
+  pub apart : (front ++ (blanks ++ (comma ++ mid)) ≡ []) ⊎ Apart (front ++ (blanks ++ (comma ++ mid)))
+  pub commas : Commas with_comma comma mid trail
+  pub commas_left : CommasLeft commas (more ++ back)
 
 -- a container of two trees with one document around it
 record Around (kind : RowKind) (path : List ℕ) (t u row new : OrderedTree) (front back : List Content) : Type 0 where
@@ -171,18 +180,14 @@ module _ (o : Options) (kind : RowKind) where
 record Gone (kind : RowKind) (top : Top) (i : ℕ) (row : OrderedTree) (t u : OrderedTree) (around : List Content) : Type 0 where
   stretches : Stretches t u (leaves_of top)
   rest : List Content
-  back : stretches.back ≡ rest ++ around
+  back : rest ++ around ≡ stretches.more ++ stretches.back
   reached : (y : Top) → IsElement y.content → Reached top y i row (stretches.trail ++ rest)
-  lead : AreInlineTrivia stretches.lead
-  apart : (o : Options) → RowAlone o kind nothing_yet row → Apart (stretches.front ++ (stretches.comma ++ stretches.mid))
-  with_comma : Bool
-  commas : Commas with_comma stretches.comma stretches.mid stretches.trail
-  left : (o : Options) → RowAlone o kind nothing_yet row → (z : List Content) → CommasLeft commas (rest ++ z)
-  which : Which top row stretches.comma stretches.mid stretches.lead stretches.trail rest with_comma
+  which : Which top row stretches.comma stretches.mid stretches.lead stretches.trail rest stretches.with_comma
 
-module _ {kind : RowKind} {top : Top} {path : List ℕ} {t u : OrderedTree} {f b : List Content} (element : IsElement top.content) where
+module _ (o : Options) {kind : RowKind} {top : Top} {path : List ℕ} {t u : OrderedTree} {f b : List Content} (element : IsElement top.content) where
   -- with no comma, or with the one behind it
-  gone_ahead : (front back given : OrderedTree) (before behind : List Content) (row : OrderedTree) (c : Bool) (commas : Commas c [] [] behind) → ((o : Options) → RowAlone o kind nothing_yet row → (z : List Content) → CommasLeft commas (leaves back ++ z)) → Which top row [] [] before behind (leaves back) c → AreInlineTrivia before → ((o : Options) → RowAlone o kind nothing_yet row → Apart (token (opening kind) ∷ leaves front)) → Around kind path t u row (followed_by front given) f b → SpaceFirst (leaves front) back given
+  gone_ahead : (front back given : OrderedTree) (before behind : List Content) (row : OrderedTree) (c : Bool) (commas : Commas c [] [] behind) → CommasLeft commas (leaves back ++ b) → Which top row [] [] before behind (leaves back) c → AreInlineTrivia before → Apart (token (opening kind) ∷ leaves front)
+      → Around kind path t u row (followed_by front given) f b → SpaceFirst (leaves front) back given
       → leaves row ≡ leaves front ++ (before ++ (leaves_of top ++ (behind ++ leaves back))) → ((y : Top) → IsElement y.content → Reached top y (element_count front) row (behind ++ leaves back)) → Gone kind top (element_count front) row t u b
   gone_ahead front back given before behind row c cm left which h lone d space e reach =
       let o : Content = token (opening kind) in
@@ -190,28 +195,32 @@ module _ {kind : RowKind} {top : Top} {path : List ℕ} {t u : OrderedTree} {f b
       record {
         stretches = record {
           front = f ++ (o ∷ leaves front);
+          blanks = [];
           comma = [];
           mid = [];
           lead = before;
           trail = behind;
+          more = [];
           back = leaves back ++ b;
           mid_now = [];
           back_now = leaves given ++ b;
           left = false;
           right = seam.0;
+          with_comma = c;
           before = d.old ∙ ap (λ l. f ++ ((o ∷ l) ++ b)) e ∙ regroup_old f (leaves front) before (leaves_of top) behind (leaves back) b o;
           after = d.now ∙ ap (λ l. f ++ ((o ∷ l) ++ b)) (leaves-followed_by front given) ∙ regroup_new f (leaves front) (leaves given) b o;
-          at_comma = no_seam (f ++ (o ∷ leaves front));
+          at_comma = same_seam (f ++ (o ∷ leaves front)) [];
           at_entry = seam_behind (λ h. ap (λ l. is_bare_leaf (last_printed l)) (append-nil (f ++ (o ∷ leaves front))) ∙ last_behind f (o ∷ leaves front) (last_behind (o ∷ []) (leaves front) h)) seam.1;
+          are_blanks = tt;
+          are_more = tt;
+          beside = h;
+          apart = inr (subst Apart (sym (append-nil (f ++ (o ∷ leaves front)))) (apart_behind f (o ∷ leaves front) lone));
+          commas = cm;
+          commas_left = left;
         };
         rest = leaves back;
         back = refl;
         reached = reach;
-        lead = h;
-        apart = λ o g. subst Apart (sym (append-nil (f ++ (token (opening kind) ∷ leaves front)))) (apart_behind f (token (opening kind) ∷ leaves front) (lone o g));
-        with_comma = c;
-        commas = cm;
-        left = left;
         which = which;
       }
     where
@@ -222,8 +231,8 @@ module _ {kind : RowKind} {top : Top} {path : List ℕ} {t u : OrderedTree} {f b
       regroup_new f fr bk b c = simp (append_assoc) refl
 
   -- with the one before it
-  gone_behind : (front mid back given_mid given : OrderedTree) (before line : List Content) (row : OrderedTree) → IsRestOfLine line → ((o : Options) → RowAlone o kind nothing_yet row → (z : List Content) → NoneLeft line (leaves back ++ z)) → Which top row (token 0x2C ∷ []) (leaves mid) before line (leaves back) false → AreInlineTrivia before → ((o : Options) → RowAlone o kind nothing_yet row → Apart (token 0x2C ∷ leaves mid)) → Around kind path t u row (followed_by front (followed_by given_mid given)) f b
-      → SpaceFirst (leaves front) mid given_mid → SpaceFirst (leaves front ++ leaves given_mid) back given
+  gone_behind : (front mid back given_mid given : OrderedTree) (before line : List Content) (row : OrderedTree) → IsRestOfLine line → NoneLeft line (leaves back ++ b) → Which top row (token 0x2C ∷ []) (leaves mid) before line (leaves back) false → AreInlineTrivia before → Apart (token 0x2C ∷ leaves mid)
+      → Around kind path t u row (followed_by front (followed_by given_mid given)) f b → SpaceFirst (leaves front) mid given_mid → SpaceFirst (leaves front ++ leaves given_mid) back given
       → leaves row ≡ leaves front ++ (token 0x2C ∷ (leaves mid ++ (before ++ (leaves_of top ++ (line ++ leaves back))))) → ((y : Top) → IsElement y.content → Reached top y (element_count front + element_count mid) row (line ++ leaves back)) → Gone kind top (element_count front + element_count mid) row t u b
   gone_behind front mid back given_mid given before line row rl left which h lone d space_mid space e reach =
       let o : Content = token (opening kind) in
@@ -232,29 +241,33 @@ module _ {kind : RowKind} {top : Top} {path : List ℕ} {t u : OrderedTree} {f b
       record {
         stretches = record {
           front = f ++ (o ∷ leaves front);
+          blanks = [];
           comma = token 0x2C ∷ [];
           mid = leaves mid;
           lead = before;
           trail = line;
+          more = [];
           back = leaves back ++ b;
           mid_now = leaves given_mid;
           back_now = leaves given ++ b;
           left = seam_mid.0;
           right = seam.0;
+          with_comma = false;
           before = d.old ∙ ap (λ l. f ++ ((o ∷ l) ++ b)) e ∙ regroup_old f (leaves front) (leaves mid) before (leaves_of top) line (leaves back) b o (token 0x2C);
           after = d.now ∙ ap (λ l. f ++ ((o ∷ l) ++ b)) (leaves-followed_by front (followed_by given_mid given) ∙ ap (λ l. leaves front ++ l) (leaves-followed_by given_mid given)) ∙ regroup_new f (leaves front) (leaves given_mid) (leaves given) b o;
           at_comma = seam_behind (λ h. last_behind f (o ∷ leaves front) (last_behind (o ∷ []) (leaves front) h)) seam_mid.1;
           at_entry = seam_behind (λ h. ap (λ l. is_bare_leaf (last_printed l)) (append_assoc f (o ∷ leaves front) (leaves given_mid))
               ∙ last_behind f (o ∷ (leaves front ++ leaves given_mid)) (last_behind (o ∷ []) (leaves front ++ leaves given_mid) h)) seam.1;
+          are_blanks = tt;
+          are_more = tt;
+          beside = h;
+          apart = inr (apart_behind (f ++ (o ∷ leaves front)) (token 0x2C ∷ leaves mid) lone);
+          commas = ahead_of_it (leaves mid) rl;
+          commas_left = left;
         };
         rest = leaves back;
         back = refl;
         reached = reach;
-        lead = h;
-        apart = λ o g. apart_behind (f ++ (token (opening kind) ∷ leaves front)) (token 0x2C ∷ leaves mid) (lone o g);
-        with_comma = false;
-        commas = ahead_of_it (leaves mid) rl;
-        left = left;
         which = which;
       }
     where
@@ -264,88 +277,75 @@ module _ {kind : RowKind} {top : Top} {path : List ℕ} {t u : OrderedTree} {f b
       regroup_new : (f fr md bk b : List Content) (c : Content) → f ++ ((c ∷ (fr ++ (md ++ bk))) ++ b) ≡ (f ++ (c ∷ fr)) ++ (md ++ (bk ++ b))
       regroup_new f fr md bk b c = simp (append_assoc) refl
 
-  gone_of : {i : ℕ} {row left : OrderedTree} → RemovedWithSeams top i row left → Around kind path t u row left f b → Gone kind top i row t u b
-  gone_of (comma_behind front back given before between line ends be lb nl space) d =
+  gone_of : {i : ℕ} {row left : OrderedTree} → RowAlone o kind nothing_yet row → RemovedWithSeams top i row left → Around kind path t u row left f b → Gone kind top i row t u b
+  gone_of g (comma_behind front back given before between line ends be lb nl space) d =
       let comma : Content = token 0x2C in
       let trivia = beside_trivia before be in
       let tail : OrderedTree = token_then 0x2C (leaves_then line back) in
       let behind : leaves (leaves_then between tail) ≡ (between ++ (comma ∷ line)) ++ leaves back =
       front_leaves between tail (between_trivia lb) ∙ ap (λ l. between ++ (comma ∷ l)) (front_leaves line back (line_trivia lb)) ∙ sym (append_assoc between (comma ∷ line) (leaves back)) in
-      gone_ahead front back given before (between ++ (comma ∷ line)) _ true (behind_it lb) (λ o g z. line_left o kind line back lb nl (at_comma o kind (parted_at o kind front before top between tail trivia (between_trivia lb) element g).behind).1 z) (the_one_behind front (leaves_then line back) before between refl element trivia (between_trivia lb) behind) be (λ o g. token_apart o (opening kind) front (parted_at o kind front before top between tail trivia (between_trivia lb) element g).before (with_token (opening kind) front ends)) d space
+      let parts = parted_at o kind front before top between tail trivia (between_trivia lb) element g in
+      gone_ahead front back given before (between ++ (comma ∷ line)) _ true (behind_it lb) (line_left o kind line back lb nl (at_comma o kind parts.behind).1 b) (the_one_behind front (leaves_then line back) before between refl element trivia (between_trivia lb) behind) be (token_apart o (opening kind) front parts.before (with_token (opening kind) front ends)) d space
       (leaves-followed_by front (among before top between tail) ∙ ap (λ l. leaves front ++ l) (among_leaves before top between tail trivia (between_trivia lb) ∙ ap (λ l. before ++ (leaves_of top ++ l)) (sym (front_leaves between tail (between_trivia lb)) ∙ behind)))
       (λ y q. renumber (none_more (element_count front)) (past_row front (reaching.past_leaves before trivia (rest_as behind (at_first (leaves_then between tail) element q)))))
-  gone_of (comma_before front mid back given_mid given before line ends be rl cl free not_come space_mid space) d =
+  gone_of g (comma_before front mid back given_mid given before line ends be rl cl free not_come space_mid space) d =
       let trivia = beside_trivia before be in
       let inner : OrderedTree = among before top line back in
-      gone_behind front mid back given_mid given before line _ rl (λ o g z. none_left o kind line cl (parted_at o kind mid before top line back trivia (rest_trivia line rl) element (at_comma o kind (parted_row o kind front g).2).1).behind z) (one_before front mid back before line refl element trivia (rest_trivia line rl) free not_come) be
-      (λ o g. token_apart o 0x2C mid (parted_at o kind mid before top line back trivia (rest_trivia line rl) element (at_comma o kind (parted_row o kind front g).2).1).before ends) d space_mid space
+      let parts = parted_at o kind mid before top line back trivia (rest_trivia line rl) element (at_comma o kind (parted_row o kind front g).2).1 in
+      gone_behind front mid back given_mid given before line _ rl (none_left o kind line cl parts.behind b) (one_before front mid back before line refl element trivia (rest_trivia line rl) free not_come) be (token_apart o 0x2C mid parts.before ends) d space_mid space
       (leaves-followed_by front (token_then 0x2C (followed_by mid inner)) ∙ ap (λ l. leaves front ++ (token 0x2C ∷ l)) (leaves-followed_by mid inner ∙ ap (λ l. leaves mid ++ l) (among_leaves before top line back trivia (rest_trivia line rl))))
       (λ y q. renumber (ap (λ n. element_count front + n) (none_more (element_count mid))) (past_row front (past_comma 0x2C (past_row mid (reaching.past_leaves before trivia (rest_as (front_leaves line back (rest_trivia line rl)) (at_first (leaves_then line back) element q)))))))
-  gone_of (no_comma front back given before line ends be rl cl free not_come space) d =
+  gone_of g (no_comma front back given before line ends be rl cl free not_come space) d =
       let trivia = beside_trivia before be in
       let inner : OrderedTree = among before top line back in
-      gone_ahead front back given before line _ false (nowhere rl) (λ o g z. none_left o kind line cl (parted_at o kind front before top line back trivia (rest_trivia line rl) element g).behind z) (none_there front back before line refl element trivia (rest_trivia line rl) free not_come) be
-      (λ o g. token_apart o (opening kind) front (parted_at o kind front before top line back trivia (rest_trivia line rl) element g).before (with_token (opening kind) front ends)) d space
+      let parts = parted_at o kind front before top line back trivia (rest_trivia line rl) element g in
+      gone_ahead front back given before line _ false (nowhere rl) (none_left o kind line cl parts.behind b) (none_there front back before line refl element trivia (rest_trivia line rl) free not_come) be (token_apart o (opening kind) front parts.before (with_token (opening kind) front ends)) d space
       (leaves-followed_by front inner ∙ ap (λ l. leaves front ++ l) (among_leaves before top line back trivia (rest_trivia line rl)))
       (λ y q. renumber (none_more (element_count front)) (past_row front (reaching.past_leaves before trivia (rest_as (front_leaves line back (rest_trivia line rl)) (at_first (leaves_then line back) element q)))))
 
-module _ (o : Options) {t u : OrderedTree} (s : SoundTree o t) (r : SoundTree o u) where
-  -- the entry stands at its place
-  entry_in : (kind : RowKind) {top : Top} {i : ℕ} {row : OrderedTree} {path : List ℕ} {f b rest : List Content} → DocumentItself (container_of kind row) path t f b → ((y : Top) → IsElement y.content → Reached top y i row rest)
-      → Entry (path ++ i ∷ []) o (printed_text t) (text_of_leaves (leaves_of top) ++ (text_of_leaves rest ++ text_of_leaves b)) (text_of_leaves rest ++ text_of_leaves b)
-  entry_in kind {top} {i} {row} {path} {f} {b} {rest} d reach =
-      subst (λ l. Entry (path ++ i ∷ []) o (printed_text t) (text_of_leaves (leaves_of top) ++ (text_of_leaves rest ++ text_of_leaves l)) (text_of_leaves rest ++ text_of_leaves l)) d.last (entry_there o kind s d.changed reach)
-
-  -- so it leaves the text
-  leaves_so : (kind : RowKind) {top : Top} {i : ℕ} {row left : OrderedTree} {path : List ℕ} {f b : List Content} → IsElement top.content → RemovedWithSeams top i row left → Around kind path t u row left f b
-      → (w x : Option Plain) → Leaves (path ++ i ∷ []) (document_of o t w) (document_of o u x)
-  leaves_so kind {top} {i} {path = path} {b = b} element leaving d w x =
-      let g = gone_of element leaving d in
-      let k = g.stretches in
-      let own : List Content = leaves_of top in
-      let behind_own : List Content = k.trail ++ k.back in
+module _ (o : Options) {t u : OrderedTree} (s : SoundTree o t) (r : SoundTree o u) (w x : Option Plain) where
+  -- so the entry is removed from the text, if it and its comma stand there so
+  pub removed_so : (path : List ℕ) {own : List Content} (k : Stretches t u own) → Begins (own ++ (k.trail ++ (k.more ++ k.back)))
+      → (behind : List ℕ) → text_of_leaves k.trail ++ (text_of_leaves k.more ++ text_of_leaves k.back) ≡ behind
+      → Entry path o (printed_text t) (text_of_leaves own ++ behind) behind → Comma path o (printed_text t) (text_of_leaves k.lead) (text_of_leaves own ++ behind) behind k.with_comma (text_of_leaves k.comma) (text_of_leaves k.mid)
+      → Leaves path (document_of o t w) (document_of o u x)
+  removed_so path {own} k begins behind same entry comma =
+      let rest : List Content = k.more ++ k.back in
+      let behind_own : List Content = k.trail ++ rest in
       let behind_lead : List Content = own ++ behind_own in
       let behind_mid : List Content = k.lead ++ behind_lead in
       let behind_comma : List Content = k.mid ++ behind_mid in
-      let behind_front : List Content = k.comma ++ behind_comma in
-      let pieces = subst (Pieces o) k.before (document_pieces o (document_alone o s.shaped)) in
-      let utf8 = subst AllUtf8 k.before (document_utf8 o s.shaped) in
-      let u1 = utf8_second k.front behind_front utf8 in
-      let u2 = utf8_second k.comma behind_comma u1 in
-      let u3 = utf8_second k.mid behind_mid u2 in
-      let u4 = utf8_second k.lead behind_lead u3 in
-      let u5 = utf8_second own behind_own u4 in
-      let p3 = pieces_second o k.mid behind_mid (pieces_second o k.comma behind_comma (pieces_second o k.front behind_front pieces)) in
-      let p5 = pieces_second o own behind_own (pieces_second o k.lead behind_lead p3) in
-      let good_back : Good o k.back = good_second o ((((k.front ++ k.comma) ++ k.mid) ++ k.lead) ++ (own ++ k.trail)) k.back (good_as o (k.before ∙ regrouped k.front k.comma k.mid k.lead own k.trail k.back) (good_tree o s)) in
-      let flat_back : LinesFlat k.back = flat_behind ((((k.front ++ k.comma) ++ k.mid) ++ k.lead) ++ (own ++ k.trail)) k.back (subst LinesFlat (k.before ∙ regrouped k.front k.comma k.mid k.lead own k.trail k.back) (document_flat o (document_alone o s.shaped) s.lines)) in
-      let row_alone = container_row o kind (at_the_place o s d.itself.changed).2.shaped in
-      let trail : Trail (text_of_leaves k.back) g.with_comma (text_of_leaves k.trail) =
-      trail_text o k.back flat_back good_back g.commas (subst (CommasLeft g.commas) (sym g.back) (g.left o row_alone b)) (pieces_first o k.trail k.back p5) (utf8_first k.trail k.back u5) in
-      let behind = rest_pieces o k.trail g.rest b k.back g.back u5 in
-      let entry = subst (λ z. Entry (path ++ i ∷ []) o (printed_text t) (text_of_leaves own ++ z) z) behind (entry_in kind d.itself g.reached) in
-      let comma = comma_so o s kind d.itself i g.which k.back (sym g.back) in
-      let old : printed_text t ≡ text_of_leaves k.front ++ (text_of_leaves k.comma ++ (text_of_leaves k.mid ++ (text_of_leaves k.lead ++ (text_of_leaves own ++ (text_of_leaves k.trail ++ text_of_leaves k.back))))) =
-      ap text_of_leaves k.before ∙ text_cons k.front behind_front utf8 (text_cons k.comma behind_comma u1 (text_cons k.mid behind_mid u2 (text_cons k.lead behind_lead u3 (text_cons own behind_own u4 (text_cons k.trail k.back u5 refl))))) in
+      let behind_blanks : List Content = k.comma ++ behind_comma in
+      let behind_front : List Content = k.blanks ++ behind_blanks in
+      let ahead : List Content = k.front ++ (k.blanks ++ (k.comma ++ k.mid)) in
+      let g0 : Good o (k.front ++ behind_front) = good_as o k.before (good_tree o s) in
+      let g1 : Good o behind_front = good_second o k.front behind_front g0 in
+      let g2 : Good o behind_blanks = good_second o k.blanks behind_blanks g1 in
+      let g3 : Good o behind_comma = good_second o k.comma behind_comma g2 in
+      let g4 : Good o behind_mid = good_second o k.mid behind_mid g3 in
+      let g5 : Good o behind_lead = good_second o k.lead behind_lead g4 in
+      let g6 : Good o behind_own = good_second o own behind_own g5 in
+      let g7 : Good o rest = good_second o k.trail rest g6 in
+      let good_back : Good o k.back = good_second o k.more k.back g7 in
+      let good_trail : Good o k.trail = good_first o k.trail rest g6 in
+      let old : printed_text t ≡ text_of_leaves k.front ++ (text_of_leaves k.blanks ++ (text_of_leaves k.comma ++ (text_of_leaves k.mid ++ (text_of_leaves k.lead ++ (text_of_leaves own ++ (text_of_leaves k.trail ++ (text_of_leaves k.more ++ text_of_leaves k.back))))))) =
+      ap text_of_leaves k.before ∙ text_cons k.front behind_front g0.utf8 (text_cons k.blanks behind_blanks g1.utf8 (text_cons k.comma behind_comma g2.utf8 (text_cons k.mid behind_mid g3.utf8 (text_cons k.lead behind_lead g4.utf8 (text_cons own behind_own g5.utf8 (text_cons k.trail rest g6.utf8 (text_cons k.more k.back g7.utf8 refl))))))) in
       let utf8_new = subst AllUtf8 k.after (document_utf8 o r.shaped) in
       let v1 = utf8_second k.front (k.mid_now ++ k.back_now) utf8_new in
-      let mid_now : text_of_leaves k.mid_now ≡ seam_if k.left ++ text_of_leaves k.mid = seam_text k.at_comma (utf8_first k.mid behind_mid u2) (utf8_first k.mid_now k.back_now v1) in
-      let back_now : text_of_leaves k.back_now ≡ seam_if k.right ++ text_of_leaves k.back = seam_text k.at_entry (utf8_second k.trail k.back u5) (utf8_second k.mid_now k.back_now v1) in
+      let mid_now : text_of_leaves k.mid_now ≡ seam_if k.left ++ text_of_leaves k.mid = seam_text k.at_comma (good_first o k.mid behind_mid g3).utf8 (utf8_first k.mid_now k.back_now v1) in
+      let back_now : text_of_leaves k.back_now ≡ seam_if k.right ++ text_of_leaves k.back = seam_text k.at_entry good_back.utf8 (utf8_second k.mid_now k.back_now v1) in
       let new : printed_text u ≡ text_of_leaves k.front ++ (seam_if k.left ++ (text_of_leaves k.mid ++ (seam_if k.right ++ text_of_leaves k.back))) =
       ap text_of_leaves k.after ∙ text_cons k.front (k.mid_now ++ k.back_now) utf8_new (text_cons k.mid_now k.back_now v1 back_now)
       ∙ ap (λ l. text_of_leaves k.front ++ (l ++ (seam_if k.right ++ text_of_leaves k.back))) mid_now
       ∙ ap (λ l. text_of_leaves k.front ++ l) (append_assoc (seam_if k.left) (text_of_leaves k.mid) (seam_if k.right ++ text_of_leaves k.back)) in
       let was_spelled : AllSpelled (k.front ++ behind_front) = subst AllSpelled k.before (spelled o s) in
-      let mid_spelled : AllSpelled behind_comma = spelled_second k.comma behind_comma (spelled_second k.front behind_front was_spelled) in
-      let back_spelled : AllSpelled k.back = spelled_second k.trail k.back (spelled_second own behind_own (spelled_second k.lead behind_lead (spelled_second k.mid behind_mid mid_spelled))) in
-      let u_mid : AllUtf8 k.mid = utf8_first k.mid behind_mid u2 in
-      let u_back : AllUtf8 k.back = utf8_second k.trail k.back u5 in
+      let mid_spelled : AllSpelled behind_comma = spelled_second k.comma behind_comma (spelled_second k.blanks behind_blanks (spelled_second k.front behind_front was_spelled)) in
+      let back_spelled : AllSpelled k.back = spelled_second k.more k.back (spelled_second k.trail rest (spelled_second own behind_own (spelled_second k.lead behind_lead (spelled_second k.mid behind_mid mid_spelled)))) in
       let left_due : IsSeam (text_of_leaves k.front) (text_of_leaves k.mid ++ (seam_if k.right ++ text_of_leaves k.back)) (seam_if k.left) =
       seam_due k.left (λ e.
       let due = k.at_comma.due e in
-      let ends = ends_so k.front (utf8_first k.front behind_front utf8) (spelled_first k.front behind_front was_spelled) due.0 in
-      let begins = rest_begins k.at_comma u_mid (spelled_first k.mid behind_mid mid_spelled) due.1 in
-      meets ends (begins_before (seam_if k.right ++ text_of_leaves k.back) begins)) in
+      let ends = ends_so k.front (good_first o k.front behind_front g0).utf8 (spelled_first k.front behind_front was_spelled) due.0 in
+      meets ends (begins_before (seam_if k.right ++ text_of_leaves k.back) (rest_begins k.at_comma (good_first o k.mid behind_mid g3).utf8 (spelled_first k.mid behind_mid mid_spelled) due.1))) in
       let front_now : List Content = k.front ++ k.mid_now in
       let now_is : leaves u ≡ front_now ++ k.back_now = k.after ∙ sym (append_assoc k.front k.mid_now k.back_now) in
       let now_spelled : AllSpelled front_now = spelled_first front_now k.back_now (subst AllSpelled now_is (spelled o r)) in
@@ -354,51 +354,73 @@ module _ (o : Options) {t u : OrderedTree} (s : SoundTree o t) (r : SoundTree o 
       let right_due : IsSeam (text_of_leaves k.front ++ (seam_if k.left ++ text_of_leaves k.mid)) (text_of_leaves k.back) (seam_if k.right) =
       seam_due k.right (λ e.
       let due = k.at_entry.due e in
-      meets (subst EndsBare now_text (ends_so front_now now_utf8 now_spelled due.0)) (rest_begins k.at_entry u_back back_spelled due.1)) in
-      let ahead : List Content = k.front ++ (k.comma ++ k.mid) in
-      let parts : leaves t ≡ ahead ++ behind_mid = k.before ∙ ap (λ l. k.front ++ l) (sym (append_assoc k.comma k.mid behind_mid)) ∙ sym (append_assoc k.front (k.comma ++ k.mid) behind_mid) in
-      let parted = gone_parted o s w ahead k.lead own k.trail [] k.back [] parts g.lead (entry_begins o kind s d.itself.changed g.reached behind_own) chars-nil in
-      let ahead_text : text_of_leaves ahead ≡ text_of_leaves k.front ++ (text_of_leaves k.comma ++ text_of_leaves k.mid) =
-      text_cons k.front (k.comma ++ k.mid) (utf8_first ahead behind_mid (subst AllUtf8 parts (document_utf8 o s.shaped))) (text_joined k.comma k.mid (utf8_first k.comma behind_comma u1)) in
-      let alone_ahead : EndsBeside (text_of_leaves k.front ++ (text_of_leaves k.comma ++ text_of_leaves k.mid)) → ⊥ = λ e.
-      nothing_beside o ahead (good_first o ahead behind_mid (good_as o parts (good_tree o s))) (spelled_first ahead behind_mid (subst AllSpelled parts (spelled o s)))
-      (g.apart o row_alone) (subst EndsBeside (sym ahead_text) e) in
-      let mid_marks : marks_in (k.comma ++ k.mid) ≡ marks_in k.mid = marks_in_both k.comma k.mid ∙ ap (λ l. l ++ marks_in k.mid) (comma_unmarked g.commas) in
+      meets (subst EndsBare now_text (ends_so front_now now_utf8 now_spelled due.0)) (rest_begins k.at_entry good_back.utf8 back_spelled due.1)) in
+      let parts : leaves t ≡ ahead ++ behind_mid = k.before ∙ regroup_ahead k.front k.blanks k.comma k.mid behind_mid in
+      let whole : leaves t ≡ (ahead ++ (k.lead ++ (own ++ k.trail))) ++ rest = parts ∙ regroup_rest ahead k.lead own k.trail rest in
+      let trail : Trail (text_of_leaves rest) k.with_comma (text_of_leaves k.trail) =
+      trail_text o rest (flat_behind (ahead ++ (k.lead ++ (own ++ k.trail))) rest (subst LinesFlat whole (document_flat o (document_alone o s.shaped) s.lines))) g7 k.commas k.commas_left good_trail.pieces good_trail.utf8 in
+      let good_ahead : Good o ahead = good_first o ahead behind_mid (good_as o parts (good_tree o s)) in
+      let inner : Good o (k.blanks ++ (k.comma ++ k.mid)) = good_second o k.front (k.blanks ++ (k.comma ++ k.mid)) good_ahead in
+      let ahead_text : text_of_leaves ahead ≡ text_of_leaves k.front ++ (text_of_leaves k.blanks ++ (text_of_leaves k.comma ++ text_of_leaves k.mid)) =
+      text_cons k.front (k.blanks ++ (k.comma ++ k.mid)) good_ahead.utf8 (text_cons k.blanks (k.comma ++ k.mid) inner.utf8 (text_cons k.comma k.mid (good_second o k.blanks (k.comma ++ k.mid) inner).utf8 refl)) in
+      let alone_ahead : EndsBeside (text_of_leaves k.front ++ (text_of_leaves k.blanks ++ (text_of_leaves k.comma ++ text_of_leaves k.mid))) → ⊥ = λ e.
+      none_beside o ahead good_ahead (spelled_first ahead behind_mid (subst AllSpelled parts (spelled o s))) k.apart (subst EndsBeside (sym ahead_text) e) in
+      let parted = gone_parted o s w ahead k.lead own k.trail k.more k.back (text_of_leaves k.more) parts k.beside begins refl in
+      let mid_marks : marks_in (k.blanks ++ (k.comma ++ k.mid)) ≡ marks_in k.mid =
+      marks_in_both k.blanks (k.comma ++ k.mid) ∙ ap (λ l. all_marks l ++ marks_in (k.comma ++ k.mid)) (blanks_unmarked k.blanks k.are_blanks) ∙ marks_in_both k.comma k.mid ∙ ap (λ l. l ++ marks_in k.mid) (comma_unmarked k.commas) in
       let marks : marks_in (leaves u) ≡ marks_in ahead ++ marks_in k.back =
       ap marks_in k.after ∙ marks_in_both k.front (k.mid_now ++ k.back_now) ∙ ap (λ l. marks_in k.front ++ l) (marks_in_both k.mid_now k.back_now ∙ ap (λ l. l ++ marks_in k.back_now) (seam_marks k.at_comma) ∙ ap (λ l. marks_in k.mid ++ l) (seam_marks k.at_entry))
-      ∙ sym (append_assoc (marks_in k.front) (marks_in k.mid) (marks_in k.back)) ∙ ap (λ l. l ++ marks_in k.back) (sym (marks_in_both k.front (k.comma ++ k.mid) ∙ ap (λ l. marks_in k.front ++ l) mid_marks)) in (
+      ∙ sym (append_assoc (marks_in k.front) (marks_in k.mid) (marks_in k.back)) ∙ ap (λ l. l ++ marks_in k.back) (sym (marks_in_both k.front (k.blanks ++ (k.comma ++ k.mid)) ∙ ap (λ l. marks_in k.front ++ l) mid_marks)) in (
         text_of_leaves k.front,
-        [],
+        text_of_leaves k.blanks,
         text_of_leaves k.comma,
         text_of_leaves k.mid,
         text_of_leaves k.lead,
         text_of_leaves own,
         text_of_leaves k.trail,
-        [],
+        text_of_leaves k.more,
         text_of_leaves k.back,
         seam_if k.left,
         seam_if k.right,
-        g.with_comma,
-        old,
-        new,
-        entry,
-        beside_text o k.lead g.lead (pieces_first o k.lead behind_lead p3),
+        k.with_comma,
+        record { before = old ∙ regroup_was (text_of_leaves k.front) (text_of_leaves k.blanks) (text_of_leaves k.comma) (text_of_leaves k.mid) (text_of_leaves k.lead) (text_of_leaves own) (text_of_leaves k.trail) (text_of_leaves k.more) (text_of_leaves k.back); after = new; sides = (left_due, right_due) },
+        blanks_text o k.blanks k.are_blanks (good_first o k.blanks behind_blanks g1).pieces,
+        blanks_text o k.more k.are_more (good_first o k.more k.back g7).pieces,
+        subst (λ z. Entry path o (printed_text t) (text_of_leaves own ++ z) z) (sym same) entry,
+        beside_text o k.lead k.beside (good_first o k.lead behind_lead g4).pieces,
         alone_ahead,
-        trail,
-        comma,
-        many.Many.stop,
-        many.Many.stop,
-        left_due,
-        right_due,
+        subst (λ z. Trail z k.with_comma (text_of_leaves k.trail)) (text_cons k.more k.back g7.utf8 refl) trail,
+        subst (λ z. Comma path o (printed_text t) (text_of_leaves k.lead) (text_of_leaves own ++ z) z k.with_comma (text_of_leaves k.comma) (text_of_leaves k.mid)) (sym same) comma,
         marks_in ahead,
-        marks_in (k.lead ++ (own ++ (k.trail ++ []))),
+        marks_in (k.lead ++ (own ++ (k.trail ++ k.more))),
         marks_in k.back,
         parted,
         marks,
       )
     where
-      regrouped : (a c e g i j k : List Content) → a ++ (c ++ (e ++ (g ++ (i ++ (j ++ k))))) ≡ ((((a ++ c) ++ e) ++ g) ++ (i ++ j)) ++ k
-      regrouped a c e g i j k = simp (append_assoc) refl
+      regroup_was : (a b c d e f g h i : List ℕ) → a ++ (b ++ (c ++ (d ++ (e ++ (f ++ (g ++ (h ++ i))))))) ≡ a ++ ((b ++ (c ++ (d ++ (e ++ (f ++ (g ++ h)))))) ++ i)
+      regroup_was a b c d e f g h i = simp (append_assoc) refl
+
+      regroup_ahead : (a b c d e : List Content) → a ++ (b ++ (c ++ (d ++ e))) ≡ (a ++ (b ++ (c ++ d))) ++ e
+      regroup_ahead a b c d e = simp (append_assoc) refl
+
+      regroup_rest : (a b c d e : List Content) → a ++ (b ++ (c ++ (d ++ e))) ≡ (a ++ (b ++ (c ++ d))) ++ e
+      regroup_rest a b c d e = simp (append_assoc) refl
+
+  -- an entry of a container
+  leaves_by : (kind : RowKind) {top : Top} {i : ℕ} {row new : OrderedTree} {path : List ℕ} {f b : List Content} → Around kind path t u row new f b → Gone kind top i row t u b → Leaves (path ++ i ∷ []) (document_of o t w) (document_of o u x)
+  leaves_by kind {top} {i} {row} {path = path} {b = b} d g =
+      let k = g.stretches in
+      let own : List Content = leaves_of top in
+      let rest : List Content = k.more ++ k.back in
+      let good : Good o (k.trail ++ rest) = good_second o ((k.front ++ (k.blanks ++ (k.comma ++ k.mid))) ++ (k.lead ++ own)) (k.trail ++ rest) (good_as o (k.before ∙ regrouped k.front k.blanks k.comma k.mid k.lead own (k.trail ++ rest)) (good_tree o s)) in
+      let behind : List ℕ = text_of_leaves k.trail ++ text_of_leaves rest in
+      let entry : Entry (path ++ i ∷ []) o (printed_text t) (text_of_leaves own ++ behind) behind =
+      subst (λ z. Entry (path ++ i ∷ []) o (printed_text t) (text_of_leaves own ++ z) z) (ap (λ l. text_of_leaves (k.trail ++ g.rest) ++ text_of_leaves l) d.itself.last ∙ rest_pieces o k.trail g.rest b rest (sym g.back) good.utf8) (entry_there o kind s d.itself.changed g.reached) in
+      removed_so (path ++ i ∷ []) k (entry_begins o kind s d.itself.changed g.reached (k.trail ++ rest)) behind (ap (λ l. text_of_leaves k.trail ++ l) (sym (text_cons k.more k.back (good_second o k.trail rest good).utf8 refl))) entry (comma_so o s kind d.itself i g.which rest g.back)
+    where
+      regrouped : (a b c d e f g : List Content) → a ++ (b ++ (c ++ (d ++ (e ++ (f ++ g))))) ≡ ((a ++ (b ++ (c ++ d))) ++ (e ++ f)) ++ g
+      regrouped a b c d e f g = simp (append_assoc) refl
 
 -- what is left of blanks and a bracket without a space is blanks and that bracket
 record Unspaced (xs : List Content) (c : Content) : Type 0 where
@@ -431,130 +453,75 @@ left_unspaced front _ _ blanks c h (space_first quiet rest silent last first) e 
     let m = without_space (leaves front ++ leaves quiet) (leaves rest) blanks c h parts in
     record { blanks = m.blanks; are = m.are; is = ap (λ l. leaves front ++ l) (leaves-followed_by quiet rest) ∙ sym (append_assoc (leaves front) (leaves quiet) (leaves rest)) ∙ m.is }
 
-no_text : {o : Options} {path text lead entry rest : List ℕ} {b : Bool} → Comma path o text lead entry rest b (text_of_leaves []) (text_of_leaves []) → Comma path o text lead entry rest b [] []
-no_text {o} {path} {text} {lead} {entry} {rest} {b} c = subst (λ l. Comma path o text lead entry rest b l l) chars-nil c
-
 module _ (o : Options) (kind : RowKind) {top : Top} {path : List ℕ} {t u : OrderedTree} {f ar : List Content} (s : SoundTree o t) (r : SoundTree o u) (w x : Option Plain) where
   -- the entry leaves, and with it all blanks that are left
   close_up : {i : ℕ} {row : OrderedTree} (c : ℕ) (d : Around kind path t u row (token_then c none) f ar)
       → (fr lead trail bk : List Content) (b : Bool) (commas : Commas b [] [] trail) → CommasLeft commas (bk ++ ar) → Which top row [] [] lead trail bk b → AreInlineTrivia lead → Apart (token (opening kind) ∷ fr) → Unspaced (fr ++ bk) (token c) → bk ≢ []
-      → leaves row ≡ fr ++ (lead ++ (leaves_of top ++ (trail ++ bk))) → ((y : Top) → IsElement y.content → Reached top y i row (trail ++ bk))
-      → Leaves (path ++ i ∷ []) (document_of o t w) (document_of o u x)
+      → leaves row ≡ fr ++ (lead ++ (leaves_of top ++ (trail ++ bk))) → ((y : Top) → IsElement y.content → Reached top y i row (trail ++ bk)) → Gone kind top i row t u ar
   close_up {i} {row} c d fr lead trail bk b commas left which beside lone un some e reach =
       let k = split fr bk un.blanks (token c) some un.is in
-      let open_leaf : Content = token (opening kind) in
-      let own : List Content = leaves_of top in
-      let front : List Content = f ++ open_leaf ∷ [] in
-      let back : List Content = token c ∷ ar in
-      let behind_trail : List Content = k.rest ++ back in
-      let behind_own : List Content = trail ++ behind_trail in
-      let behind_lead : List Content = own ++ behind_own in
-      let behind_fr : List Content = lead ++ behind_lead in
-      let old : leaves t ≡ front ++ (fr ++ behind_fr) =
-      d.old ∙ ap (λ l. f ++ ((open_leaf ∷ l) ++ ar)) (e ∙ ap (λ l. fr ++ (lead ++ (own ++ (trail ++ l)))) k.behind) ∙ regroup_old f fr lead own trail k.rest ar open_leaf (token c) in
-      let new : leaves u ≡ front ++ back = d.now ∙ regroup_new f ar open_leaf (token c) in
-      let p0 = subst (Pieces o) old (document_pieces o (document_alone o s.shaped)) in
-      let u0 = subst AllUtf8 old (document_utf8 o s.shaped) in
-      let p1 = pieces_second o front (fr ++ behind_fr) p0 in
-      let u1 = utf8_second front (fr ++ behind_fr) u0 in
-      let p2 = pieces_second o fr behind_fr p1 in
-      let u2 = utf8_second fr behind_fr u1 in
-      let p3 = pieces_second o lead behind_lead p2 in
-      let u3 = utf8_second lead behind_lead u2 in
-      let p4 = pieces_second o own behind_own p3 in
-      let u4 = utf8_second own behind_own u3 in
-      let p5 = pieces_second o trail behind_trail p4 in
-      let u5 = utf8_second trail behind_trail u4 in
-      let text : printed_text t ≡ text_of_leaves front ++ (text_of_leaves fr ++ (text_of_leaves lead ++ (text_of_leaves own ++ (text_of_leaves trail ++ (text_of_leaves k.rest ++ text_of_leaves back))))) =
-      ap text_of_leaves old ∙ text_cons front (fr ++ behind_fr) u0 (text_cons fr behind_fr u1 (text_cons lead behind_lead u2 (text_cons own behind_own u3 (text_cons trail behind_trail u4 (text_cons k.rest back u5 refl))))) in
-      let edited : printed_text u ≡ text_of_leaves front ++ text_of_leaves back = ap text_of_leaves new ∙ text_cons front back (subst AllUtf8 new (document_utf8 o r.shaped)) refl in
-      let tail : behind_trail ≡ bk ++ ar = sym (append_assoc k.rest (token c ∷ []) ar) ∙ ap (λ l. l ++ ar) (sym k.behind) in
-      let behind : text_of_leaves (trail ++ bk) ++ text_of_leaves ar ≡ text_of_leaves trail ++ (text_of_leaves k.rest ++ text_of_leaves back) =
-      rest_pieces o trail bk ar behind_trail tail u4 ∙ ap (λ l. text_of_leaves trail ++ l) (text_cons k.rest back u5 refl) in
-      let entry = subst (λ z. Entry (path ++ i ∷ []) o (printed_text t) (text_of_leaves own ++ z) z) behind (entry_in o s r kind d.itself reach) in
-      let comma = comma_so o s kind d.itself i which behind_trail (sym tail) in
-      let back_text : text_of_leaves behind_trail ≡ text_of_leaves k.rest ++ text_of_leaves back = text_cons k.rest back u5 refl in
       let blank = subst AreBlanks k.before un.are in
-      let before_trail : List Content = (front ++ fr) ++ (lead ++ own) in
-      let whole : leaves t ≡ (before_trail ++ trail) ++ behind_trail = old ∙ regrouped front fr lead own trail behind_trail in
-      let good_back : Good o behind_trail = good_second o (before_trail ++ trail) behind_trail (good_as o whole (good_tree o s)) in
-      let flat_back : LinesFlat behind_trail = flat_behind (before_trail ++ trail) behind_trail (subst LinesFlat whole (document_flat o (document_alone o s.shaped) s.lines)) in
-      let trail_of : Trail (text_of_leaves behind_trail) b (text_of_leaves trail) =
-      trail_text o behind_trail flat_back good_back commas (subst (CommasLeft commas) (sym tail) left) (pieces_first o trail behind_trail p4) (utf8_first trail behind_trail u4) in
-      let parted = gone_parted o s w (front ++ fr) lead own trail k.rest back (text_of_leaves k.rest) (old ∙ sym (append_assoc front fr behind_fr)) beside (entry_begins o kind s d.itself.changed reach behind_own) refl in
-      let ahead : List Content = front ++ fr in
-      let parts : leaves t ≡ ahead ++ behind_fr = old ∙ sym (append_assoc front fr behind_fr) in
-      let ahead_text : text_of_leaves ahead ≡ text_of_leaves front ++ (text_of_leaves fr ++ []) = text_joined front fr (utf8_first front (fr ++ behind_fr) u0) ∙ ap (λ l. text_of_leaves front ++ l) (sym (append-nil (text_of_leaves fr))) in
-      let last : Apart ahead = subst Apart (sym (append_assoc f (open_leaf ∷ []) fr)) (apart_behind f (open_leaf ∷ fr) lone) in
-      let alone_ahead : EndsBeside (text_of_leaves front ++ (text_of_leaves fr ++ [])) → ⊥ = λ e.
-      nothing_beside o ahead (good_first o ahead behind_fr (good_as o parts (good_tree o s))) (spelled_first ahead behind_fr (subst AllSpelled parts (spelled o s))) last (subst EndsBeside (sym ahead_text) e) in
-      let marks : marks_in (leaves u) ≡ marks_in (front ++ fr) ++ marks_in back =
-      ap marks_in new ∙ marks_in_both front back ∙ ap (λ l. l ++ marks_in back) (sym (blanks_behind_unmarked front fr (blanks_first fr k.rest blank))) in (
-        text_of_leaves front,
-        text_of_leaves fr,
-        [],
-        [],
-        text_of_leaves lead,
-        text_of_leaves own,
-        text_of_leaves trail,
-        text_of_leaves k.rest,
-        text_of_leaves back,
-        [],
-        [],
-        b,
-        text,
-        edited,
-        entry,
-        beside_text o lead beside (pieces_first o lead behind_lead p2),
-        alone_ahead,
-        subst (λ x. Trail x b (text_of_leaves trail)) back_text trail_of,
-        no_text (subst (λ z. Comma (path ++ i ∷ []) o (printed_text t) (text_of_leaves lead) (text_of_leaves own ++ (text_of_leaves trail ++ z)) (text_of_leaves trail ++ z) b (text_of_leaves []) (text_of_leaves [])) back_text comma),
-        blanks_text o fr (blanks_first fr k.rest blank) (pieces_first o fr behind_fr p1),
-        blanks_text o k.rest (blanks_second fr k.rest blank) (pieces_first o k.rest back p5),
-        inl refl,
-        inl refl,
-        marks_in (front ++ fr),
-        marks_in (lead ++ (own ++ (trail ++ k.rest))),
-        marks_in back,
-        parted,
-        marks,
-      )
+      let open_leaf : Content = token (opening kind) in
+      let front : List Content = f ++ open_leaf ∷ [] in
+      let tail : bk ++ ar ≡ k.rest ++ (token c ∷ ar) = ap (λ l. l ++ ar) k.behind ∙ append_assoc k.rest (token c ∷ []) ar in
+      record {
+        stretches = record {
+          front = front;
+          blanks = fr;
+          comma = [];
+          mid = [];
+          lead = lead;
+          trail = trail;
+          more = k.rest;
+          back = token c ∷ ar;
+          mid_now = [];
+          back_now = token c ∷ ar;
+          left = false;
+          right = false;
+          with_comma = b;
+          before = d.old ∙ ap (λ l. f ++ ((open_leaf ∷ l) ++ ar)) (e ∙ ap (λ l. fr ++ (lead ++ (leaves_of top ++ (trail ++ l)))) k.behind) ∙ regroup_old f fr lead (leaves_of top) trail k.rest ar open_leaf (token c);
+          after = d.now ∙ sym (append_assoc f (open_leaf ∷ []) (token c ∷ ar));
+          at_comma = same_seam front [];
+          at_entry = same_seam (front ++ []) (token c ∷ ar);
+          are_blanks = blanks_first fr k.rest blank;
+          are_more = blanks_second fr k.rest blank;
+          beside = beside;
+          apart = inr (subst Apart (sym (ap (λ l. front ++ l) (append-nil fr) ∙ append_assoc f (open_leaf ∷ []) fr)) (apart_behind f (open_leaf ∷ fr) lone));
+          commas = commas;
+          commas_left = subst (CommasLeft commas) tail left;
+        };
+        rest = bk;
+        back = tail;
+        reached = reach;
+        which = which;
+      }
     where
       regroup_old : (f fr ld ow tr rs ar : List Content) (a z : Content) → f ++ ((a ∷ (fr ++ (ld ++ (ow ++ (tr ++ (rs ++ z ∷ [])))))) ++ ar) ≡ (f ++ a ∷ []) ++ (fr ++ (ld ++ (ow ++ (tr ++ (rs ++ (z ∷ ar))))))
       regroup_old f fr ld ow tr rs ar a z = simp (append_assoc) refl
 
-      regrouped : (a c e g i j : List Content) → a ++ (c ++ (e ++ (g ++ (i ++ j)))) ≡ (((a ++ c) ++ (e ++ g)) ++ i) ++ j
-      regrouped a c e g i j = simp (append_assoc) refl
-
-      regroup_new : (f ar : List Content) (a z : Content) → f ++ ((a ∷ z ∷ []) ++ ar) ≡ (f ++ a ∷ []) ++ (z ∷ ar)
-      regroup_new f ar a z = simp (append_assoc) refl
-
-  closes_so : {i : ℕ} {row left : OrderedTree} (element : IsElement top.content) → RemovedWithSeams top i row left → (blanks : List Content) (c : ℕ) → AreBlanks blanks → left ≡ leaves_then blanks (token_then c none)
-      → (d : Around kind path t u row (token_then c none) f ar) → Leaves (path ++ i ∷ []) (document_of o t w) (document_of o u x)
-  closes_so element (comma_behind front back given before between line ends be lb nl space) blanks c h e d =
+  closes_so : {i : ℕ} {row left : OrderedTree} (element : IsElement top.content) → RowAlone o kind nothing_yet row → RemovedWithSeams top i row left → (blanks : List Content) (c : ℕ) → AreBlanks blanks → left ≡ leaves_then blanks (token_then c none)
+      → (d : Around kind path t u row (token_then c none) f ar) → Gone kind top i row t u ar
+  closes_so element alone_row (comma_behind front back given before between line ends be lb nl space) blanks c h e d =
       let comma : Content = token 0x2C in
       let trivia = beside_trivia before be in
       let tail : OrderedTree = token_then 0x2C (leaves_then line back) in
       let behind : leaves (leaves_then between tail) ≡ (between ++ (comma ∷ line)) ++ leaves back =
       front_leaves between tail (between_trivia lb) ∙ ap (λ l. between ++ (comma ∷ l)) (front_leaves line back (line_trivia lb)) ∙ sym (append_assoc between (comma ∷ line) (leaves back)) in
-      let alone_row = container_row o kind (at_the_place o s d.itself.changed).2.shaped in
       let parts = parted_at o kind front before top between tail trivia (between_trivia lb) element alone_row in
       let some = row_some o (past_leaves o kind line (line_trivia lb) (at_comma o kind parts.behind).1) in
       close_up c d (leaves front) before (between ++ (comma ∷ line)) (leaves back) true (behind_it lb) (line_left o kind line back lb nl (at_comma o kind parts.behind).1 ar) (the_one_behind front (leaves_then line back) before between refl element trivia (between_trivia lb) behind) be (token_apart o (opening kind) front parts.before (with_token (opening kind) front ends)) (left_unspaced front back given blanks c h space e) some
       (leaves-followed_by front (among before top between tail) ∙ ap (λ l. leaves front ++ l) (among_leaves before top between tail trivia (between_trivia lb) ∙ ap (λ l. before ++ (leaves_of top ++ l)) (sym (front_leaves between tail (between_trivia lb)) ∙ behind)))
       (λ y q. renumber (none_more (element_count front)) (past_row front (reaching.past_leaves before trivia (rest_as behind (at_first (leaves_then between tail) element q)))))
-  closes_so element (comma_before front mid back given_mid given before line ends be rl cl free not_come space_mid space) blanks c h e d =
-      let alone_row = container_row o kind (at_the_place o s d.itself.changed).2.shaped in
+  closes_so element alone_row (comma_before front mid back given_mid given before line ends be rl cl free not_come space_mid space) blanks c h e d =
       let parts = parted_row o kind front alone_row in
       let stood = (at_comma o kind parts.2).0 in
       let count : element_count front + element_count (followed_by given_mid given) ≡ 0 = sym (count_followed front (followed_by given_mid given)) ∙ ap element_count e ∙ blanks_count blanks c h in
       let none_stood = no_elements o parts.1 (omega (arith, count)) in
       let wrong : an_element ≡ nothing_yet = sym stood ∙ none_stood in
       cc
-  closes_so element (no_comma front back given before line ends be rl cl free not_come space) blanks c h e d =
+  closes_so element alone_row (no_comma front back given before line ends be rl cl free not_come space) blanks c h e d =
       let trivia = beside_trivia before be in
       let inner : OrderedTree = among before top line back in
-      let alone_row = container_row o kind (at_the_place o s d.itself.changed).2.shaped in
       let parts = parted_at o kind front before top line back trivia (rest_trivia line rl) element alone_row in
       close_up c d (leaves front) before line (leaves back) false (nowhere rl) (none_left o kind line cl parts.behind ar) (none_there front back before line refl element trivia (rest_trivia line rl) free not_come) be (token_apart o (opening kind) front parts.before (with_token (opening kind) front ends)) (left_unspaced front back given blanks c h space e) (row_some o parts.behind)
       (leaves-followed_by front inner ∙ ap (λ l. leaves front ++ l) (among_leaves before top line back trivia (rest_trivia line rl)))
@@ -563,11 +530,14 @@ module _ (o : Options) (kind : RowKind) {top : Top} {path : List ℕ} {t u : Ord
   -- whether it closes up or not
   entry_leaves_so : {i : ℕ} {row left new : OrderedTree} → IsElement top.content → RemovedWithSeams top i row left → ClosesUp left new → Around kind path t u row new f ar
       → Leaves (path ++ i ∷ []) (document_of o t w) (document_of o u x)
-  entry_leaves_so {i} {row} {left} element leaving closing d = by refl closing d
+  entry_leaves_so {i} {row} {left} element leaving closing d = leaves_by o s r w x kind d (by refl closing d)
     where
-      by : {l n : OrderedTree} → l ≡ left → ClosesUp l n → Around kind path t u row n f ar → Leaves (path ++ i ∷ []) (document_of o t w) (document_of o u x)
-      by e stays d = leaves_so o s r kind element (subst (RemovedWithSeams top i row) (sym e) leaving) d w x
-      by e (closes_up blanks {c = c} h) d = closes_so element leaving blanks c h (sym e) d
+      alone_row : RowAlone o kind nothing_yet row
+      alone_row = container_row o kind (at_the_place o s d.itself.changed).2.shaped
+
+      by : {l n : OrderedTree} → l ≡ left → ClosesUp l n → Around kind path t u row n f ar → Gone kind top i row t u ar
+      by e stays d = gone_of o element alone_row (subst (RemovedWithSeams top i row) (sym e) leaving) d
+      by e (closes_up blanks {c = c} h) d = closes_so element alone_row leaving blanks c h (sym e) d
 
 pub entry_removed : (o : Options) {t u : OrderedTree} → SoundTree o t → SoundTree o u → (w x : Option Plain) → DocumentValueOf o t w → DocumentValueOf o u x → (path : List ℕ) (i : ℕ) (top : Top) → EntryTaken path i top t u
     → Leaves (path ++ i ∷ []) (document_of o t w) (document_of o u x) × Loses w x (path ++ i ∷ [])

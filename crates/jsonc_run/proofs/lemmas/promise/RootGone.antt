@@ -16,13 +16,10 @@ use Rattle.jsonc_sound.specs.MarkChanges.{AreBlanks}
 use Rattle.jsonc_sound.specs.SoundTrees.{SoundTree}
 use Rattle.jsonc_sound.specs.TriviaChanges.{AreTrivia, leaves_then}
 use Rattle.jsonc_sound.specs.TreeChanges.{IsElement, leaves_of, ElementChanged, this_element, passed, later_element, itself, DocumentChanged, in_root}
-use Rattle.jsonc_sound.proofs.NodesAlone.{document_alone}
 use Rattle.jsonc_sound.proofs.Entries.{blanks_trivia}
 use Rattle.jsonc_sound.proofs.FirstNodes.{none_changed, no_element, value_element}
-use Rattle.jsonc_sound.proofs.Pieces.{LinesFlat, Pieces, document_flat, document_pieces}
 use Rattle.jsonc_sound.proofs.RootRows.{root_alone}
 use Rattle.jsonc_sound.proofs.RowParts.{beside_trivia, rest_trivia}
-use Rattle.jsonc_sound.proofs.Texts.{AllUtf8}
 use Rattle.jsonc_sound.proofs.TriviaLeaves.{front_leaves}
 use Rattle.jsonc_run.specs.texts.Paths as places
 use Rattle.jsonc_run.specs.texts.Paths.{Entry, Value}
@@ -35,25 +32,22 @@ use Rattle.jsonc_run.specs.texts.Leaving as leaving
 use Rattle.jsonc_run.specs.texts.Entering.{NoCommaComes}
 use Rattle.jsonc_edit.specs.SeamRemovals.{NoCommentLeft}
 use Rattle.jsonc_edit.specs.remove.Laws.{StaysNone}
-use Rattle.jsonc_run.specs.texts.Leaving.{EndsBeside, Leaves, Trail}
+use Rattle.jsonc_run.specs.texts.Leaving.{Leaves, Comma}
 use Rattle.jsonc_run.specs.promise.PlaceLaws.{text_of_leaves}
-use Rattle.jsonc_run.proofs.lemmas.promise.CommentTexts.{blanks_text}
 use Rattle.jsonc_run.proofs.lemmas.promise.Closing.{blanks_first, blanks_second}
-use Rattle.jsonc_run.proofs.lemmas.promise.Bare.{AllSpelled, spelled, spelled_first}
-use Rattle.jsonc_run.proofs.lemmas.promise.Joined.{good_as, good_first, good_second, good_tree}
-use Rattle.jsonc_run.proofs.lemmas.promise.LeafEnds.{flat_behind}
+use Rattle.jsonc_run.proofs.lemmas.promise.Joined.{good_as, good_second, good_tree, Good}
 use Rattle.jsonc_run.proofs.lemmas.promise.NothingBehind.{root_comment}
-use Rattle.jsonc_run.proofs.lemmas.promise.Leaves.{row_back, text_joined, utf8_second, utf8_first, document_utf8}
-use Rattle.jsonc_run.proofs.lemmas.promise.NothingBeside.{Apart, none_beside, root_apart}
+use Rattle.jsonc_run.proofs.lemmas.promise.Leaves.{row_back}
+use Rattle.jsonc_run.proofs.lemmas.promise.NothingBeside.{Apart, root_apart}
 use Rattle.jsonc_run.proofs.lemmas.promise.StretchElements.{Reached, rest_as, at_first, past_leaves, past_row}
 use Rattle.jsonc_run.proofs.lemmas.promise.RemovedTexts as removing
-use Rattle.jsonc_run.proofs.lemmas.promise.RemovedTexts.{text_cons, gone_parted, pieces_first, pieces_second}
-use Rattle.jsonc_run.proofs.lemmas.promise.Stretches.{blanks_behind_unmarked, marks_in, marks_in_both, value_begins}
+use Rattle.jsonc_run.proofs.lemmas.promise.RemovedTexts.{text_cons}
+use Rattle.jsonc_run.proofs.lemmas.promise.Stretches.{value_begins}
 use Rattle.jsonc_sound.specs.Documents.{document_of}
 use Rattle.jsonc_sound.proofs.WithoutValue.{among_leaves}
-use Rattle.jsonc_run.proofs.lemmas.promise.Trails.{NoneLeft, trail_text}
-use Rattle.jsonc_run.proofs.lemmas.promise.Trivia.{beside_text}
+use Rattle.jsonc_run.proofs.lemmas.promise.Trails.{NoneLeft}
 use Rattle.jsonc_run.proofs.lemmas.promise.Values.{past_trivia, at_the_place}
+use Rattle.jsonc_run.proofs.lemmas.promise.Removing.{Stretches, same_seam, removed_so}
 
 module _ (o : Options) where
   -- a document has one value
@@ -111,84 +105,45 @@ module _ (o : Options) where
       → Leaves [] (document_of o (root_with row) w) (document_of o (root_with new) x)
   value_gone {top} {row} {new} s r w x pre mid lead line tail back e f are are_too beside rest lone left reach =
       let t : OrderedTree = root_with row in
-      let u : OrderedTree = root_with new in
       let own : List Content = leaves_of top in
-      let old : leaves t ≡ pre ++ (mid ++ (lead ++ (own ++ (line ++ (tail ++ back))))) = append-nil (leaves row) ∙ e in
-      let edited : leaves u ≡ pre ++ back = append-nil (leaves new) ∙ f in
       let d : DocumentChanged top (record { content = Content.null; below = none }) [] t (root_with reach.new) = in_root reach.changed itself in
-      let p0 = subst (Pieces o) old (document_pieces o (document_alone o s.shaped)) in
-      let u0 = subst AllUtf8 old (document_utf8 o s.shaped) in
-      let p1 = pieces_second o pre (mid ++ (lead ++ (own ++ (line ++ (tail ++ back))))) p0 in
-      let u1 = utf8_second pre (mid ++ (lead ++ (own ++ (line ++ (tail ++ back))))) u0 in
-      let p2 = pieces_second o mid (lead ++ (own ++ (line ++ (tail ++ back)))) p1 in
-      let u2 = utf8_second mid (lead ++ (own ++ (line ++ (tail ++ back)))) u1 in
-      let p3 = pieces_second o lead (own ++ (line ++ (tail ++ back))) p2 in
-      let u3 = utf8_second lead (own ++ (line ++ (tail ++ back))) u2 in
-      let p4 = pieces_second o own (line ++ (tail ++ back)) p3 in
-      let u4 = utf8_second own (line ++ (tail ++ back)) u3 in
-      let p5 = pieces_second o line (tail ++ back) p4 in
-      let u5 = utf8_second line (tail ++ back) u4 in
-      let text : printed_text t ≡ text_of_leaves pre ++ (text_of_leaves mid ++ (text_of_leaves lead ++ (text_of_leaves own ++ (text_of_leaves line ++ (text_of_leaves tail ++ text_of_leaves back))))) =
-      ap text_of_leaves old
-      ∙ text_cons pre (mid ++ (lead ++ (own ++ (line ++ (tail ++ back))))) u0
-      (text_cons mid (lead ++ (own ++ (line ++ (tail ++ back)))) u1
-      (text_cons lead (own ++ (line ++ (tail ++ back))) u2
-      (text_cons own (line ++ (tail ++ back)) u3
-      (text_cons line (tail ++ back) u4
-      (text_cons tail back u5 refl))))) in
-      let after : printed_text u ≡ text_of_leaves pre ++ text_of_leaves back = ap text_of_leaves edited ∙ text_cons pre back (subst AllUtf8 edited (document_utf8 o r.shaped)) refl in
-      let behind : text_of_leaves (line ++ (tail ++ back)) ≡ text_of_leaves line ++ (text_of_leaves tail ++ text_of_leaves back) = text_cons line (tail ++ back) u4 (text_cons tail back u5 refl) in
-      let stood = subst (λ l. Entry [] o (printed_text t) (text_of_leaves own ++ text_of_leaves l) (text_of_leaves l)) reach.same (places.the_value (at_the_place o s d).1) in
-      let entry = subst (λ z. Entry [] o (printed_text t) (text_of_leaves own ++ z) z) behind stood in
-      let last = subst (λ x. Gap o x []) behind (subst (λ l. Gap o (text_of_leaves l) []) reach.same (behind_value s.shaped (root_lines row s.lines) reach.changed)) in
-      let not_behind : NoCommaComes o (text_of_leaves line ++ (text_of_leaves tail ++ text_of_leaves back)) = λ r g. nothing_more r (gap_unique last g refl refl) in
-      let gap_there = subst (λ z. Gap o (printed_text t) (text_of_leaves own ++ z)) behind (subst (λ l. Gap o (printed_text t) (text_of_leaves own ++ text_of_leaves l)) reach.same (gap_to (at_the_place o s d).1)) in
-      let begins = value_begins o (line ++ (tail ++ back)) (at_the_place o s d).2.shaped in
-      let parted = gone_parted o s w (pre ++ mid) lead own line tail back (text_of_leaves tail) (old ∙ sym (append_assoc pre mid (lead ++ (own ++ (line ++ (tail ++ back)))))) beside begins refl in
-      let before_rest : List Content = (pre ++ mid) ++ ((lead ++ own) ++ line) in
-      let whole : leaves t ≡ before_rest ++ (tail ++ back) = old ∙ regrouped pre mid lead own line (tail ++ back) in
-      let flat : LinesFlat (tail ++ back) = flat_behind before_rest (tail ++ back) (subst LinesFlat whole (document_flat o (document_alone o s.shaped) s.lines)) in
-      let trail_of : Trail (text_of_leaves (tail ++ back)) false (text_of_leaves line) =
-      trail_text o (tail ++ back) flat (good_second o before_rest (tail ++ back) (good_as o whole (good_tree o s))) (removing.nowhere rest) left (pieces_first o line (tail ++ back) p4) (utf8_first line (tail ++ back) u4) in
-      let ahead : List Content = pre ++ mid in
-      let behind_ahead : List Content = lead ++ (own ++ (line ++ (tail ++ back))) in
-      let parts : leaves t ≡ ahead ++ behind_ahead = old ∙ sym (append_assoc pre mid behind_ahead) in
-      let ahead_text : text_of_leaves ahead ≡ text_of_leaves pre ++ (text_of_leaves mid ++ []) = text_joined pre mid (utf8_first pre (mid ++ behind_ahead) u0) ∙ ap (λ l. text_of_leaves pre ++ l) (sym (append-nil (text_of_leaves mid))) in
-      let alone_ahead : EndsBeside (text_of_leaves pre ++ (text_of_leaves mid ++ [])) → ⊥ = λ e.
-      none_beside o ahead (good_first o ahead behind_ahead (good_as o parts (good_tree o s))) (spelled_first ahead behind_ahead (subst AllSpelled parts (spelled o s))) lone (subst EndsBeside (sym ahead_text) e) in
-      let marks : marks_in (leaves u) ≡ marks_in (pre ++ mid) ++ marks_in back = ap marks_in edited ∙ marks_in_both pre back ∙ ap (λ l. l ++ marks_in back) (sym (blanks_behind_unmarked pre mid are)) in (
-        text_of_leaves pre,
-        text_of_leaves mid,
-        [],
-        [],
-        text_of_leaves lead,
-        text_of_leaves own,
-        text_of_leaves line,
-        text_of_leaves tail,
-        text_of_leaves back,
-        [],
-        [],
-        false,
-        text,
-        after,
-        entry,
-        beside_text o lead beside (pieces_first o lead (own ++ (line ++ (tail ++ back))) p2),
-        alone_ahead,
-        subst (λ x. Trail x false (text_of_leaves line)) (text_cons tail back u5 refl) trail_of,
-        leaving.none not_behind leaving.the_text (leaving.gap gap_there),
-        blanks_text o mid are (pieces_first o mid (lead ++ (own ++ (line ++ (tail ++ back)))) p1),
-        blanks_text o tail are_too (pieces_first o tail back p5),
-        inl refl,
-        inl refl,
-        marks_in (pre ++ mid),
-        marks_in (lead ++ (own ++ (line ++ tail))),
-        marks_in back,
-        parted,
-        marks,
-      )
+      let k : Stretches t (root_with new) own = record {
+        front = pre;
+        blanks = mid;
+        comma = [];
+        mid = [];
+        lead = lead;
+        trail = line;
+        more = tail;
+        back = back;
+        mid_now = [];
+        back_now = back;
+        left = false;
+        right = false;
+        with_comma = false;
+        before = append-nil (leaves row) ∙ e;
+        after = append-nil (leaves new) ∙ f;
+        at_comma = same_seam pre [];
+        at_entry = same_seam (pre ++ []) back;
+        are_blanks = are;
+        are_more = are_too;
+        beside = beside;
+        apart = subst (λ l. (l ≡ []) ⊎ Apart l) (ap (λ l. pre ++ l) (sym (append-nil mid))) lone;
+        commas = removing.nowhere rest;
+        commas_left = left;
+      } in
+      let parts : leaves t ≡ (pre ++ (mid ++ (lead ++ own))) ++ (line ++ (tail ++ back)) = append-nil (leaves row) ∙ e ∙ regrouped pre mid lead own (line ++ (tail ++ back)) in
+      let good : Good o (line ++ (tail ++ back)) = good_second o (pre ++ (mid ++ (lead ++ own))) (line ++ (tail ++ back)) (good_as o parts (good_tree o s)) in
+      let behind : text_of_leaves (line ++ (tail ++ back)) ≡ text_of_leaves line ++ (text_of_leaves tail ++ text_of_leaves back) = text_cons line (tail ++ back) good.utf8 (text_cons tail back (good_second o line (tail ++ back) good).utf8 refl) in
+      let entry = subst (λ l. Entry [] o (printed_text t) (text_of_leaves own ++ text_of_leaves l) (text_of_leaves l)) reach.same (places.the_value (at_the_place o s d).1) in
+      let last = subst (λ l. Gap o (text_of_leaves l) []) reach.same (behind_value s.shaped (root_lines row s.lines) reach.changed) in
+      let not_behind : NoCommaComes o (text_of_leaves (line ++ (tail ++ back))) = λ r g. nothing_more r (gap_unique last g refl refl) in
+      let gap_there = subst (λ l. Gap o (printed_text t) (text_of_leaves own ++ text_of_leaves l)) reach.same (gap_to (at_the_place o s d).1) in
+      removed_so o s r w x [] k (value_begins o (line ++ (tail ++ back)) (at_the_place o s d).2.shaped) (text_of_leaves (line ++ (tail ++ back))) (sym behind) entry
+      (subst (λ l. Comma [] o (printed_text t) (text_of_leaves lead) (text_of_leaves own ++ text_of_leaves (line ++ (tail ++ back))) (text_of_leaves (line ++ (tail ++ back))) false l l) (sym chars-nil) (leaving.none not_behind leaving.the_text (leaving.gap gap_there)))
     where
-      regrouped : (a c e g i j : List Content) → a ++ (c ++ (e ++ (g ++ (i ++ j)))) ≡ ((a ++ c) ++ ((e ++ g) ++ i)) ++ j
-      regrouped a c e g i j = simp (append_assoc) refl
+      regrouped : (a b c d e : List Content) → a ++ (b ++ (c ++ (d ++ e))) ≡ (a ++ (b ++ (c ++ d))) ++ e
+      regrouped a b c d e = simp (append_assoc) refl
 
   pub root_gone : {top : Top} {row left new : OrderedTree} (s : SoundTree o (root_with row)) (r : SoundTree o (root_with new)) (w x : Option Plain) → IsElement top.content → (leaving : ValueRemoved top row left) → StaysNone leaving → Empties left new
       → Leaves [] (document_of o (root_with row) w) (document_of o (root_with new) x)

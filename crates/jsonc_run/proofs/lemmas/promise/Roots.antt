@@ -6,8 +6,7 @@ use Rattle.jsonc_text.specs.Options.{Options}
 use Rattle.jsonc_text.proofs.Basics.{clash}
 use Rattle.jsonc_text.specs.Plain.{Plain}
 use Rattle.jsonc_tree.specs.Content.{Content, newline}
-use Rattle.jsonc_sound.proofs.NodesAlone.{document_alone}
-use Rattle.jsonc_sound.proofs.Pieces.{Pieces, document_pieces}
+use Rattle.jsonc_sound.proofs.Pieces.{Pieces}
 use Rattle.jsonc_tree.specs.OrderedTree.{OrderedTree, none, more, leaves, Top}
 use Rattle.jsonc_tree.specs.Values.{DocumentValueOf}
 use Rattle.jsonc_sound.specs.Shape.{printed_text}
@@ -42,11 +41,13 @@ use Rattle.jsonc_run.specs.promise.PlaceLaws.{text_of_leaves}
 use Rattle.jsonc_run.proofs.lemmas.promise.Leaves.{text_joined, utf8_first, utf8_second}
 use Rattle.jsonc_sound.specs.Documents.{all_marks, document_of}
 use Rattle.jsonc_sound.proofs.RootRows.{joined_trivia, leaves_then_joined, root_alone, root_lines, trivia_of}
-use Rattle.jsonc_run.proofs.lemmas.promise.Stretches.{pieces_first, pieces_second, blanks_behind_unmarked, laid_literals, marks_in, marks_in_both, parted, parted_as}
+use Rattle.jsonc_run.proofs.lemmas.promise.Stretches.{blanks_behind_unmarked, laid_literals, marks_in, marks_in_both, parted, parted_as}
 use Rattle.jsonc_run.proofs.lemmas.promise.Trivia.{line_end_text}
 use Rattle.jsonc_run.proofs.lemmas.promise.CommentEnds.{comment_ends, comment_last}
 use Rattle.jsonc_run.proofs.lemmas.promise.LaidTexts.{is_laid}
-use Rattle.jsonc_run.proofs.lemmas.promise.Replacing.{Printed, printed}
+use Rattle.jsonc_run.proofs.lemmas.promise.Cuts.{Cut}
+use Rattle.jsonc_run.proofs.lemmas.promise.Joined.{Good, good_first, good_second}
+use Rattle.jsonc_run.proofs.lemmas.promise.Replacing.{printed}
 
 -- past leaves of trivia
 past_trivia : {top : Top} {row : OrderedTree} {f b : List Content} (ls : List Content) → AreTrivia ls → RowHolds top 0 row f b → RowHolds top 0 (leaves_then ls row) (ls ++ f) b
@@ -94,9 +95,9 @@ module _ (o : Options) (top : Top) (v : Plain) where
       in_root (past_trivia (front ++ before) (joined_trivia front before ft (ends_trivia before bl)) (this_element element)) itself in
       let ahead : ((front ++ before) ++ []) ++ [] ≡ front ++ before = append-nil ((front ++ before) ++ []) ∙ append-nil (front ++ before) in
       let holds : DocumentHolds top [] (root_with next) (front ++ before) (behind ++ back) = subst (λ l. DocumentHolds top [] (root_with next) l (behind ++ back)) ahead (subst (λ l. DocumentHolds top [] (root_with next) (((front ++ before) ++ []) ++ []) l) rest held) in
-      let p : Printed o top [] (root_with next) (front ++ before) (behind ++ back) = printed o r holds in
-      let u_front : AllUtf8 (front ++ before) = utf8_first (front ++ before) (own ++ (behind ++ back)) p.utf8 in
-      let u_back : AllUtf8 (behind ++ back) = utf8_second own (behind ++ back) (utf8_second (front ++ before) (own ++ (behind ++ back)) p.utf8) in
+      let p : Cut o (Value []) (root_with next) (front ++ before) own (behind ++ back) = printed o r holds in
+      let u_front : AllUtf8 (front ++ before) = utf8_first (front ++ before) (own ++ (behind ++ back)) p.good.utf8 in
+      let u_back : AllUtf8 (behind ++ back) = utf8_second own (behind ++ back) (utf8_second (front ++ before) (own ++ (behind ++ back)) p.good.utf8) in
       let t_front : text_of_leaves (front ++ before) ≡ text_of_leaves front ++ text_of_leaves before = text_joined front before (utf8_first front before u_front) in
       let t_back : text_of_leaves (behind ++ back) ≡ text_of_leaves behind ++ text_of_leaves back = text_joined behind back (utf8_first behind back u_back) in
       let both : leaves (root_with row) ≡ front ++ back = append-nil (leaves row) ∙ front_leaves (front ++ back) none (joined_trivia front back ft bt) ∙ append-nil (front ++ back) in
@@ -104,12 +105,10 @@ module _ (o : Options) (top : Top) (v : Plain) where
       let second : printed_text (root_with next) ≡ text_of_leaves front ++ (text_of_leaves before ++ (text_of_leaves own ++ (text_of_leaves behind ++ text_of_leaves back))) =
       p.text ∙ ap (λ l. l ++ (text_of_leaves own ++ text_of_leaves (behind ++ back))) t_front ∙ ap (λ l. (text_of_leaves front ++ text_of_leaves before) ++ (text_of_leaves own ++ l)) t_back
       ∙ append_assoc (text_of_leaves front) (text_of_leaves before) (text_of_leaves own ++ (text_of_leaves behind ++ text_of_leaves back)) in
-      let all_pieces : Pieces o ((front ++ before) ++ (own ++ (behind ++ back))) = subst (Pieces o) p.whole (document_pieces o (document_alone o r.shaped)) in
-      let own_pieces : Pieces o own = pieces_first o own (behind ++ back) (pieces_second o (front ++ before) (own ++ (behind ++ back)) all_pieces) in
-      let own_utf8 : AllUtf8 own = utf8_first own (behind ++ back) (utf8_second (front ++ before) (own ++ (behind ++ back)) p.utf8) in
+      let here : Good o own = good_first o own (behind ++ back) (good_second o (front ++ before) (own ++ (behind ++ back)) p.good) in
       let ended = one_end behind back ends in
       let new_parted = parted o r x (front ++ before) own (behind ++ back) p.whole p.begins
-      (text_joined own (behind ++ back) (utf8_first own (behind ++ back) (utf8_second (front ++ before) (own ++ (behind ++ back)) p.utf8)) ∙ ap (λ l. text_of_leaves own ++ l) t_back) t_back in
+      (text_joined own (behind ++ back) here.utf8 ∙ ap (λ l. text_of_leaves own ++ l) t_back) t_back in
       let behind_unmarked : marks_in (behind ++ back) ≡ marks_in back = marks_in_both behind back ∙ ap (λ l. all_marks l ++ marks_in back) (blanks_unmarked behind (ends_blanks behind el)) in
       let marks : marks_in (leaves (root_with row)) ≡ marks_in front ++ marks_in back = ap marks_in both ∙ marks_in_both front back in (
         text_of_leaves front,
@@ -123,7 +122,7 @@ module _ (o : Options) (top : Top) (v : Plain) where
             (subst (LinesEndLoosely false true) (leaves_then_joined front back none) (root_lines s.lines)),
         ended.0,
         ended.1,
-        laid_so own_pieces own_utf8,
+        laid_so here.pieces here.utf8,
         subst (λ l. Value [] o (printed_text (root_with next)) (text_of_leaves own ++ l) l) t_back p.stands,
         old,
         new,
