@@ -60,11 +60,11 @@ def may_need(document, edit, damage):
     """The errors that an edit may have since this is missing, or None where it may do something else than in the whole document."""
     name, path = edit[0], edit[1] if EDITS[edit[0]].words.startswith('path') else ()
     if damage.part == 'bracket':
-        is_needed = damage.path in (path, path[:-1]) or name == 'SetTrailingCommas' and is_below(damage.path, path)
+        is_needed = damage.path in (path, path[:-1]) or name in ('SetTrailingCommas', 'PutCommas') and is_below(damage.path, path)
         # (a comma that is last in an array or object is taken for its bracket)
         return None if is_needed and document.text[damage.start - 1] == ',' else {'MissingBrackets'} if is_needed else set()
     # what has no name or no colon has no value, and is found under no name
-    is_value = name == 'SetValue' and path == damage.path or name == 'SetTrailingCommas' and is_below(damage.path, path) and damage.path in document.rows
+    is_value = name == 'SetValue' and path == damage.path or name in ('SetTrailingCommas', 'PutCommas') and is_below(damage.path, path) and damage.path in document.rows
     if is_value or name == 'EnsureProperty' and path == damage.path[:-1] and damage.part == 'name':
         return None
     return {'NoSuchPlace', 'MissingName'} if is_below(path, damage.path) or name == 'EnsureProperty' and path == damage.path[:-1] else set()

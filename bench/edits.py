@@ -8,7 +8,7 @@ import typing
 
 import vectors
 from definitions import (comes_first, ends_with_its_line, gains, gains_comment, is_boolean, is_cleared, is_comment, is_made, is_multiline, leaves, loses_comment, puts_boolean,
-                         puts_name, puts_property, puts_value, sets_commas, sorts, stays)
+                         puts_commas, puts_name, puts_property, puts_value, sets_commas, sorts, stays)
 
 
 # The words of a case.
@@ -138,6 +138,7 @@ EDITS = {
     'EnsureProperty': Edit('path name shape over', 'an object', ensures_named, 2, costs=(('object', "{own} 'k{last} obj keep"),)),
     'EnsureMultiline': Edit('path', 'a container', lambda old, path: (is_multiline, path), 2, no_case=('/a',), costs=(('array', '{own}'),)),
     'SetTrailingCommas': Edit('path mode', 'a container', lambda old, path, some: (sets_commas, path, some), 2, costs=(('array', '{own} never'),)),
+    'PutCommas': Edit('path', 'a container', lambda old, path: (puts_commas, path), 2, no_case=('/a',), costs=(('array', '{own}'),)),
     # (a sort compares more often than there are entries)
     'Sort': Edit('path flag flag', 'a container', lambda old, path, pinned, kept: (sorts, path), 2, costs=(('object', '{own} 0 0', 3),)),
     'RemoveComment': Edit('comment', 'a comment', lambda old, number: (loses_comment, number), 3, 3, no_case=('x',), costs=(('comments', '{middle}'),)),

@@ -257,6 +257,7 @@ fn read_insertion(alloc: Global, words: &[&str]) -> Result<Edit<Global>, CaseErr
             let mode = chosen(mode, &MODES)?;
             Ok(Edit::SetTrailingCommas(read_path(alloc, path)?, mode))
         }
+        ["PutCommas", path] => Ok(Edit::PutCommas(read_path(alloc, path)?)),
         ["Sort", path, pin, groups] => {
             let (pin, groups) = (chosen(pin, &FLAGS)?, chosen(groups, &FLAGS)?);
             Ok(Edit::Sort(read_path(alloc, path)?, pin, groups))

@@ -3,3 +3,4 @@ pub mod commas
 pub mod remove
 pub mod set
 pub mod commenting
+pub mod placing

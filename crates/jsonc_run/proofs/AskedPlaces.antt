@@ -13,14 +13,14 @@ use Rattle.jsonc_sound.specs.Changes.{Changed, MemberChanged}
 use Rattle.jsonc_insert.specs.elements.Laws.{item_count}
 use Rattle.jsonc_insert.specs.elements.Members.{member_count}
 use Rattle.jsonc_insert.specs.named.Members.{LacksMember, no_more, other_name, IsFirstMember, first_is, first_later}
-use Rattle.jsonc_run.specs.Edits.{PlainEdit, replace, remove, remove_comment, set_root, clear_root, replace_property, ensure_root, set_value, ensure_value, set_boolean, ensure_multiline, insert_element, append_element, insert_property, append_property, ensure_property, set_commas, set_some_commas, rearrange, rename_property, insert_comment, operation_of, unsorted}
+use Rattle.jsonc_run.specs.Edits.{PlainEdit, replace, remove, remove_comment, set_root, clear_root, replace_property, ensure_root, set_value, ensure_value, set_boolean, ensure_multiline, insert_element, append_element, insert_property, append_property, ensure_property, set_commas, set_some_commas, rearrange, rename_property, insert_comment, put_commas, operation_of, unsorted}
 use Rattle.jsonc_run.specs.Named.{StandsAt, HasValueAt, HasContainerAt, HasPropertyAt, Asks, EnsuresNamed, IsNamed, ensures, ensures_root, entry, sets_root}
 use Rattle.jsonc_run.specs.texts.Edits as texts
 use Rattle.jsonc_run.specs.texts.Edits.{Operation}
 use Rattle.jsonc_run.specs.texts.Paths.{an_array, an_object}
 use Rattle.jsonc_run.specs.promise.Asked.{HasPlace}
 use Rattle.jsonc_run.specs.declared.edit.Edit.{Edit}
-use Rattle.jsonc_run.specs.declared.edit.Edit.TheVariants.{RemoveComment, SetTrailingCommas}
+use Rattle.jsonc_run.specs.declared.edit.Edit.TheVariants.{PutCommas, RemoveComment, SetTrailingCommas}
 use Rattle.jsonc_text.specs.Documents.{Document}
 use Rattle.jsonc_text.specs.Marks.{comments_of}
 use Rattle.jsonc_run.proofs.NamedPlaces.{nth_member}
@@ -66,6 +66,7 @@ abbrev Besides : Option Plain → ℕ → PlainEdit → Type 0
 Besides w count (remove_comment number) = number < count
 Besides w count (set_commas path mode) = HasContainerAt path w
 Besides w count (set_some_commas path mode) = HasContainerAt path w
+Besides w count (put_commas whole path) = HasContainerAt path w
 Besides w count e = Unit {0}
 
 -- where it asks for an operation it has its place
@@ -73,6 +74,7 @@ asked_there : (w : Option Plain) (count : ℕ) (e : PlainEdit) (op : Operation) 
 asked_there w count (remove_comment number) op is there = there
 asked_there w count (set_commas path mode) op is there = there
 asked_there w count (set_some_commas path mode) op is there = there
+asked_there w count (put_commas whole path) op is there = there
 asked_there w count (set_root v) op is there = tt
 asked_there w count clear_root op is there = tt
 asked_there w count (ensure_root shape how) op is there = tt
@@ -101,6 +103,7 @@ there_asked w count (append_property path name v) (ms, stands) = (texts.insert a
 there_asked w count (ensure_property path name shape how) (ms, stands) = let n = named_asks w path name shape how ms stands in (n.0, (ms, stands, n.1))
 there_asked w count (set_commas path mode) at = (texts.set_commas true path mode, refl)
 there_asked w count (set_some_commas path mode) at = (texts.set_commas false path mode, refl)
+there_asked w count (put_commas whole path) at = (texts.put_commas whole path, refl)
 there_asked w count (rearrange by_blank_lines path headers order) at = (texts.rearrange by_blank_lines path order, (at, refl))
 there_asked w count (rename_property path name) at = (texts.rename_property path name, (at, refl))
 there_asked w count (insert_comment path place text) at = (texts.insert_comment path place (chars text), (at, refl))
@@ -110,9 +113,11 @@ module _ {A : Type 0} (d : Document) where
   pub place_named : (e : Edit A) → HasPlace d e → IsNamed d.value (length (comments_of d.marks)) (operation_of unsorted e)
   place_named (RemoveComment number) there = there
   place_named (SetTrailingCommas path mode) there = there
+  place_named (PutCommas path) there = there
   place_named e (op, asks) = asked_there d.value (length (comments_of d.marks)) (operation_of unsorted e) op asks tt
 
   pub place_asked : (e : Edit A) → IsNamed d.value (length (comments_of d.marks)) (operation_of unsorted e) → HasPlace d e
   place_asked (RemoveComment number) named = named
   place_asked (SetTrailingCommas path mode) named = named
+  place_asked (PutCommas path) named = named
   place_asked e named = there_asked d.value (length (comments_of d.marks)) (operation_of unsorted e) named

@@ -31,12 +31,12 @@ use Rattle.jsonc_insert.specs.named.Named.{EnsuredFor}
 use Rattle.jsonc_insert.specs.named.Places.{IsPropertyAt, a_property}
 use Rattle.jsonc_edit.specs.set.Shapes.{is_of, empty_of}
 use Rattle.jsonc_insert.proofs.lemmas.named.Writing.{first_named}
-use Rattle.jsonc_run.specs.Edits.{PlainEdit, replace, remove, remove_comment, set_root, clear_root, replace_property, ensure_root, set_value, ensure_value, set_boolean, ensure_multiline, insert_element, append_element, insert_property, append_property, ensure_property, set_commas, set_some_commas, rearrange, rename_property, insert_comment, PropertyValueSet, RootEnsured, RootSet}
+use Rattle.jsonc_run.specs.Edits.{PlainEdit, replace, remove, remove_comment, set_root, clear_root, replace_property, ensure_root, set_value, ensure_value, set_boolean, ensure_multiline, insert_element, append_element, insert_property, append_property, ensure_property, set_commas, set_some_commas, rearrange, rename_property, insert_comment, put_commas, PropertyValueSet, RootEnsured, RootSet}
 use Rattle.jsonc_run.specs.Places.{IsEntryAt, an_entry, in_array, in_object, the_value}
-use Rattle.jsonc_run.specs.Refusals.{as_it_was, set_in_part}
+use Rattle.jsonc_run.specs.Refusals.{as_it_was, put_in_part, set_in_part}
 use Rattle.jsonc_run.proofs.CommentMade.{leaves_come}
 use Rattle.jsonc_run.proofs.DetachedNodes.{there_below}
-use Rattle.jsonc_run.specs.Parents.{IsCall, all_stay, children_leave, gives_way, gives_way_raw, property_gives_way, comment_leaves, element_leaves, first_comes, last_comes, boolean_set, comes_on_lines, element_comes, property_comes, commas_set, some_commas_set, sorted, comment_comes, IsCallOf, EditIsCall, RefusalIsCall}
+use Rattle.jsonc_run.specs.Parents.{IsCall, all_stay, children_leave, gives_way, gives_way_raw, property_gives_way, comment_leaves, element_leaves, first_comes, last_comes, boolean_set, comes_on_lines, element_comes, property_comes, commas_set, commas_put, some_commas_set, sorted, comment_comes, IsCallOf, EditIsCall, RefusalIsCall}
 
 module _ (old new : List Node) (tree : IsTree old) where
   pub call_of : (n : ℕ) → n < length old → IsCall old new n → IsCallOf old new n
@@ -176,6 +176,8 @@ edit_is_call old (ensure_property path name shape how) new tree (n, at, (m, (fou
     in_document old tree new n up (named_ensured old new tree n (there old tree n up) name shape how found m first by)
 edit_is_call old (set_commas path mode) new tree (n, at, set) = at_path old tree new path n at.0 (commas_set mode n set)
 edit_is_call old (set_some_commas path mode) new tree (n, at, part) = at_path old tree new path n at.0 (some_commas_set mode n part)
+edit_is_call old (put_commas true path) new tree (n, at, put) = at_path old tree new path n at.0 (commas_put n put.0)
+edit_is_call old (put_commas false path) new tree (n, at, put) = at_path old tree new path n at.0 (commas_put n put)
 edit_is_call old (rearrange by_blank_lines path headers order) new tree (n, at, (is, made, pins)) = at_path old tree new path n at.0 (sorted n headers order made)
 edit_is_call old (rename_property path name) new tree (n, at, (m, r)) =
     in_document old tree new n (property_over old tree path n at).0 (call_of_child old new tree r.0 n (named_child old tree n r.0 r.1) (gives_way_raw r.0 m (Plain.string name) r.2))
@@ -187,3 +189,4 @@ edit_is_call old (insert_comment path place text) new tree (n, at, (may, comes))
 pub refusal_is_call : (old : List Node) (e : PlainEdit) (new : List Node) → RefusalIsCall old e new
 refusal_is_call old e new tree (as_it_was keeps same) = call_of old new tree 0 tree.first (all_stay 0 keeps)
 refusal_is_call old _ new tree (set_in_part {path = path} {mode = mode} n at part) = at_path old tree new path n at.0 (some_commas_set mode n part)
+refusal_is_call old _ new tree (put_in_part {path = path} n at part) = at_path old tree new path n at.0 (commas_put n part)

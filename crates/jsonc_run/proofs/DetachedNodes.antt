@@ -43,7 +43,8 @@ use Rattle.jsonc_insert.specs.members.Inserted.{PropertyPut}
 use Rattle.jsonc_insert.proofs.lemmas.members.RowReplaced.{prepared_all}
 use Rattle.jsonc_sort.specs.Rearranged.{moves, Rearranged}
 use Rattle.jsonc_sort.specs.Sorting.{Headers}
-use Rattle.jsonc_run.specs.Parents.{IsCall, all_stay, leaf_set, leaf_leaves, children_leave, gives_way, gives_way_raw, property_gives_way, comment_leaves, element_leaves, first_comes, last_comes, boolean_set, comes_on_lines, element_comes, property_comes, commas_set, some_commas_set, sorted, comment_comes, no_call, next_call, IsApart, CallStaysApart, CallsStayApart}
+use Rattle.jsonc_edit.proofs.lemmas.placing.Chains as placing
+use Rattle.jsonc_run.specs.Parents.{IsCall, all_stay, leaf_set, leaf_leaves, children_leave, gives_way, gives_way_raw, property_gives_way, comment_leaves, element_leaves, first_comes, last_comes, boolean_set, comes_on_lines, element_comes, property_comes, commas_set, commas_put, some_commas_set, sorted, comment_comes, no_call, next_call, IsApart, CallStaysApart, CallsStayApart}
 
 module _ (old : List Node) (tree : IsTree old) where
   -- it is not over this node
@@ -355,6 +356,7 @@ call_elsewhere old new _ tree after low (element_comes c i m v e) = row_elsewher
 call_elsewhere old new _ tree after low (property_comes c i m name v e) = put_elsewhere old tree new c i name v m low e
 call_elsewhere old new _ tree after low (commas_set mode n set) = leaves_others mode old n new tree low set
 call_elsewhere old new _ tree after low (some_commas_set mode n part) = leaves_others_in_part mode old n new tree low part
+call_elsewhere old new _ tree after low (commas_put n put) = placing.leaves_others old n new tree low put
 call_elsewhere old new _ tree after low (sorted c h order made) = order_elsewhere old tree new c h order after made
 call_elsewhere old new _ tree after low (comment_comes n c place contents said r) = beside_elsewhere old tree r.ready new n c _ _ r.row said after r.prepared.keeps r.put
 

@@ -90,6 +90,7 @@ never_deep ns n (edits.append_property path name v) k = no_refusal (has_brackets
 never_deep ns n (edits.ensure_property path name shape how) k = never_named ns n name shape how k
 never_deep ns n (edits.set_commas path mode) k = no_memory k.0
 never_deep ns n (edits.set_some_commas path mode) k = k
+never_deep ns n (edits.put_commas whole path) k = no_memory k.0
 never_deep ns n (edits.rename_property path name) k = k
 never_deep ns n (edits.insert_comment path place text) k = k
 never_deep ns n e k = no_memory k

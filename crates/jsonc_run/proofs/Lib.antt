@@ -10,6 +10,7 @@ pub mod Booleans
 pub mod Inserted
 pub mod Properties
 pub mod EnsuredValues
+pub mod CommasPut
 pub mod CommasSet
 pub mod Wider
 pub mod Sorts

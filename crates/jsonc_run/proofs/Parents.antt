@@ -26,7 +26,8 @@ use Rattle.jsonc_edit.specs.set.Booleans.{BooleanSet}
 use Rattle.jsonc_edit.specs.set.PropertyValues.{LastValue}
 use Rattle.jsonc_sort.specs.Rearranged.{moves, Rearranged}
 use Rattle.jsonc_sort.specs.Sorting.{Headers}
-use Rattle.jsonc_run.specs.Parents.{IsCall, all_stay, leaf_set, leaf_leaves, children_leave, gives_way, gives_way_raw, property_gives_way, comment_leaves, element_leaves, first_comes, last_comes, boolean_set, comes_on_lines, element_comes, property_comes, commas_set, some_commas_set, sorted, comment_comes, no_call, next_call, CallKeepsParents, CallsKeepParents, StaysWithItsNodes}
+use Rattle.jsonc_run.proofs.CommasPut.{chain_length, chain_stays}
+use Rattle.jsonc_run.specs.Parents.{IsCall, all_stay, leaf_set, leaf_leaves, children_leave, gives_way, gives_way_raw, property_gives_way, comment_leaves, element_leaves, first_comes, last_comes, boolean_set, comes_on_lines, element_comes, property_comes, commas_set, commas_put, some_commas_set, sorted, comment_comes, no_call, next_call, CallKeepsParents, CallsKeepParents, StaysWithItsNodes}
 
 -- what had a parent has it still
 record Holds (old new : List Node) : Type 0 where
@@ -273,6 +274,10 @@ loses_by old new _ tree (property_comes c i m name v e) =
     (loses_row e.lined e.ready new e.before.opens.prepared.tree e.prepared _ _ _ _ e.join e.put)
 loses_by old new _ tree (commas_set mode n set) = loses_commas mode (holders old n) old new tree set
 loses_by old new _ tree (some_commas_set mode n part) = loses_commas mode part.done old new tree part.set
+loses_by old new _ tree (commas_put n put) = record {
+  len = chain_length n old new tree put;
+  parent = λ k c said. elim (chain_stays n k old new tree put (parent_there old tree k c said).0) [ inl same ↦ inl (same ∙ said) | inr none ↦ inr none ];
+}
 loses_by old new _ tree (sorted c h order made) = loses_order old new tree c h order made
 loses_by old new _ tree (comment_comes n c place contents said r) = loses_row old r.ready new tree r.prepared _ _ _ _ r.join r.put
 

@@ -71,8 +71,9 @@ use Rattle.jsonc_insert.proofs.lemmas.named.Values.{empty_writable, layout_given
 use Rattle.jsonc_insert.proofs.lemmas.named.Writing.{finds_member, first_named}
 use Rattle.jsonc_insert.proofs.lemmas.elements.Marked.{marks_come_in}
 use Rattle.jsonc_run.specs.Named.{entry, ensures, may_stay, Asks, IsNamed, StandsAt}
-use Rattle.jsonc_run.specs.Edits.{PlainEdit, replace, remove, remove_comment, set_root, clear_root, replace_property, ensure_root, set_value, ensure_value, set_boolean, ensure_multiline, insert_element, append_element, insert_property, append_property, ensure_property, set_commas, set_some_commas, rearrange, rename_property, insert_comment, RootSet, EditStep, IsOfCharacters, Allows}
-use Rattle.jsonc_run.specs.Written.{PrintsNoBlank, IsMarked, IsTold, MadeIn, IsChanged, by_nothing, by_value, by_entry, by_all, by_comment, by_first, by_clearing, by_property, by_boolean, by_lines, by_inserting, by_inserting_member, by_commas, by_sorting, by_name, by_inserting_comment, EntryRemoved, entry_left, value_left, FirstComes, ReplacesProperty, property_given}
+use Rattle.jsonc_run.proofs.CommasPut.{put_placed, put_say, put_within}
+use Rattle.jsonc_run.specs.Edits.{PlainEdit, replace, remove, remove_comment, set_root, clear_root, replace_property, ensure_root, set_value, ensure_value, set_boolean, ensure_multiline, insert_element, append_element, insert_property, append_property, ensure_property, set_commas, set_some_commas, rearrange, rename_property, insert_comment, put_commas, RootSet, EditStep, IsOfCharacters, Allows}
+use Rattle.jsonc_run.specs.Written.{PrintsNoBlank, IsMarked, IsTold, MadeIn, IsChanged, by_nothing, by_value, by_entry, by_all, by_comment, by_first, by_clearing, by_property, by_boolean, by_lines, by_inserting, by_inserting_member, by_commas, by_putting, by_sorting, by_name, by_inserting_comment, EntryRemoved, entry_left, value_left, FirstComes, ReplacesProperty, property_given}
 use Rattle.jsonc_run.specs.Places.{IsEntryAt, the_value, an_entry, IsEntryOf, in_array, in_object, IsBooleanAt, IsObjectAt}
 use Rattle.jsonc_run.specs.texts.Edits as texts
 use Rattle.jsonc_run.specs.texts.Edits.{Operation, options_behind}
@@ -383,6 +384,13 @@ module _ (o : Options) (old new : List Node) (tree : IsTree old) (after : IsTree
   edit_made (set_some_commas path mode) h k (n, at, part) =
       let w = some_commas_say o old new path n tree s at mode part in
       made_so (texts.set_commas false path mode) w.is (unchanged by_commas w.is.value) w.is.marks (w.commas, some_commas_within o old new path n tree s at mode part) (λ count at. refl)
+  edit_made (put_commas true path) h k (n, at, put) =
+      let w = put_say o old new path n tree s at put.0 in
+      let placed = put_placed o old new path n tree s at put in
+      made_so (texts.put_commas true path) w.is (unchanged by_putting w.is.value) w.is.marks (w.commas, placed.0, placed.1) (λ count at. refl)
+  edit_made (put_commas false path) h k (n, at, put) =
+      let w = put_say o old new path n tree s at put in
+      made_so (texts.put_commas false path) w.is (unchanged by_putting w.is.value) w.is.marks (w.commas, put_within o old new path n tree s at put) (λ count at. refl)
   edit_made (rearrange by_blank_lines path headers order) h k (n, at, (all, made, pins)) =
       let a = sorted_at o old new path n tree s at headers order after all made in
       let w = sorted_says o path order old new s a.0 in

@@ -7,6 +7,7 @@ use Rattle.jsonc_tree.specs.Tree.{Node, children_at, IsTree}
 use Rattle.jsonc_layout.specs.nodes.Properties.{value_at}
 use Rattle.jsonc_layout.specs.nodes.Siblings.{elements_at}
 use Rattle.jsonc_edit.specs.commenting.Inserting.{Comes, MayCome}
+use Rattle.jsonc_edit.specs.commas.InPlace.{ArePut, CommasPut}
 use Rattle.jsonc_edit.specs.commas.InTurn.{holders, AreSetInPart, AreSetInTurn}
 use Rattle.jsonc_edit.specs.Comments.{CommentTaken}
 use Rattle.jsonc_edit.specs.Reading.{IsReplaced}
@@ -25,7 +26,7 @@ use Rattle.jsonc_sort.specs.Above.{PinsUnderBlankLines}
 use Rattle.jsonc_sort.specs.Rearranged.{IsOrderIn, Rearranged}
 use Rattle.jsonc_sort.specs.Sorting.{Headers}
 use Rattle.jsonc_run.specs.declared.edit.Edit.{Edit}
-use Rattle.jsonc_run.specs.declared.edit.Edit.TheVariants.{Replace, Remove, RemoveComment, SetRoot, ClearRoot, ReplaceProperty, EnsureRoot, SetValue, EnsureValue, SetBoolean, EnsureMultiline, InsertElement, AppendElement, InsertProperty, AppendProperty, EnsureProperty, SetTrailingCommas, Sort, RenameProperty, InsertComment}
+use Rattle.jsonc_run.specs.declared.edit.Edit.TheVariants.{Replace, Remove, RemoveComment, SetRoot, ClearRoot, ReplaceProperty, EnsureRoot, SetValue, EnsureValue, SetBoolean, EnsureMultiline, InsertElement, AppendElement, InsertProperty, AppendProperty, EnsureProperty, SetTrailingCommas, Sort, RenameProperty, InsertComment, PutCommas}
 use Rattle.jsonc_text.specs.declared.edit.Place as comments
 use Rattle.jsonc_text.specs.declared.edit.Over.{Over}
 use Rattle.jsonc_text.specs.declared.edit.Over.TheVariants as over
@@ -44,7 +45,8 @@ use Rattle.jsonc_layout.specs.from_input.Texts.{IsCharacters, IsOfTexts}
 -- that a property of this name and value so comes into the object at the path; that the first property of this name in the object at the path has a value of
 -- a shape; that the trailing commas of the array or object at the path, and of those below it, are set, or, where memory was refused on the way, of the first of
 -- them; that the entries of the array or object at the path come in an order, with headers that are pinned, if `by_blank_lines` only by these; that the property
--- at the path has this name; that the comment of this text, in bytes, is inserted above the entry at the path, or after it.
+-- at the path has this name; that the comment of this text, in bytes, is inserted above the entry at the path, or after it;
+-- that the commas of the array or object at the path, and of those below it, are put in place, or, where memory was refused on the way, some of them.
 pub data PlainEdit : Type 0 where
   replace : List ℕ → Plain → PlainEdit
   remove : List ℕ → PlainEdit
@@ -67,6 +69,7 @@ pub data PlainEdit : Type 0 where
   rearrange : (by_blank_lines : Bool) → (path : List ℕ) → Headers → (order : List ℕ) → PlainEdit
   rename_property : List ℕ → List ℕ → PlainEdit
   insert_comment : List ℕ → comments.Place → List ℕ → PlainEdit
+  put_commas : (whole : Bool) → List ℕ → PlainEdit
 
 -- how a sort was done: which comments are pinned, and whether blank lines part the entries; and the order in which these come
 pub record Sorting : Type 0 where
@@ -85,6 +88,7 @@ is_sort e = false
 -- the edit is made whole or not at all, and no closure is asked for it
 abbrev pub is_whole : {A : Type 0} → Edit A → Bool
 is_whole (SetTrailingCommas path mode) = false
+is_whole (PutCommas path) = false
 is_whole (Sort path pin groups) = false
 is_whole e = true
 
@@ -110,6 +114,7 @@ operation_of s (SetTrailingCommas path mode) = set_commas path.items mode
 operation_of s (Sort path pin groups) = rearrange true path.items s.headers s.order
 operation_of s (RenameProperty path name) = rename_property path.items (chars_of name)
 operation_of s (InsertComment path place text) = insert_comment path.items place (string_bytes text)
+operation_of s (PutCommas path) = put_commas true path.items
 
 -- where it is to be made
 abbrev pub place_of : PlainEdit → Place
@@ -134,6 +139,7 @@ place_of (set_some_commas path mode) = at_container path
 place_of (rearrange by_blank_lines path headers order) = at_container path
 place_of (rename_property path name) = at_property path
 place_of (insert_comment path place text) = at_entry path
+place_of (put_commas whole path) = at_container path
 
 -- What the options have to allow of an edit: each number that it writes is, whole, one of theirs; and where a comment is inserted they allow comments.
 abbrev pub Allows : Options → PlainEdit → Type 0
@@ -208,7 +214,7 @@ PropertyValueSet old new r v (Some n) = (m : ℕ) × IsReplaced old new n v m
 -- behind all elements, or the property so; or the first property of the name in n has a value of the shape, or another that was to stay, or has come; or the
 -- trailing commas of n and of those below it have been set, or those of the first of these; or its entries have come in the order, with comments pinned by blank lines
 -- alone, if that is asked for; or n, a property, has the name, whose node is m, and else what it had; or the comment, which may be inserted there, has been inserted
--- above n or after it.
+-- above n or after it; or the commas of n and of those below it have been put in place, or some of them.
 abbrev pub MakesAt : List Node → ℕ → PlainEdit → List Node → Type 0
 MakesAt old n (replace path v) new = (m : ℕ) × IsReplaced old new n v m
 MakesAt old n (remove path) new = TakesElement old new n
@@ -231,6 +237,8 @@ MakesAt old n (set_some_commas path mode) new = AreSetInPart mode old (holders o
 MakesAt old n (rearrange by_blank_lines path headers order) new = IsOrderIn old n order × Rearranged old new n headers order × (by_blank_lines ≡ true → PinsUnderBlankLines old n headers)
 MakesAt old n (rename_property path name) new = (m : ℕ) × IsRenamed old new n name m
 MakesAt old n (insert_comment path place text) new = MayCome place old n text × Comes place old new n text
+MakesAt old n (put_commas true path) new = ArePut old n new
+MakesAt old n (put_commas false path) new = CommasPut n old new
 
 -- the edit was made at its place
 abbrev pub EditStep : List Node → PlainEdit → List Node → Type 0

@@ -10,7 +10,7 @@ use Rattle.jsonc_sound.specs.SoundTrees.{SoundTree}
 use Rattle.jsonc_text.specs.declared.edit.EditError.{EditError}
 use Rattle.jsonc_text.specs.declared.edit.EditError.TheVariants.{NoSuchPlace}
 use Rattle.jsonc_insert.specs.elements.Members.{member_count}
-use Rattle.jsonc_run.specs.Edits.{PlainEdit, place_of, replace, remove, remove_comment, set_root, clear_root, replace_property, ensure_root, set_value, ensure_value, set_boolean, ensure_multiline, insert_element, append_element, insert_property, append_property, ensure_property, set_commas, set_some_commas, rearrange, rename_property, insert_comment}
+use Rattle.jsonc_run.specs.Edits.{PlainEdit, place_of, replace, remove, remove_comment, set_root, clear_root, replace_property, ensure_root, set_value, ensure_value, set_boolean, ensure_multiline, insert_element, append_element, insert_property, append_property, ensure_property, set_commas, set_some_commas, rearrange, rename_property, insert_comment, put_commas}
 use Rattle.jsonc_run.specs.Places.{Place, in_document, at_value, at_entry, at_property, at_boolean, at_array, at_object, at_container, at_comment}
 use Rattle.jsonc_run.specs.Refusals.{HasItsPlace}
 use Rattle.jsonc_text.specs.declared.edit.Over.{Over}
@@ -103,6 +103,7 @@ Asks w (append_property path name v) op = (ms : Members) × (i : ℕ) × StandsA
 Asks w (ensure_property path name shape how) op = (ms : Members) × StandsAt (object ms) path w × EnsuresNamed w path name shape how ms op
 Asks w (set_commas path mode) op = op ≡ texts.set_commas true path mode
 Asks w (set_some_commas path mode) op = op ≡ texts.set_commas false path mode
+Asks w (put_commas whole path) op = op ≡ texts.put_commas whole path
 Asks w (rearrange by_blank_lines path headers order) op = HasContainerAt path w × (op ≡ texts.rearrange by_blank_lines path order)
 Asks w (rename_property path name) op = HasPropertyAt path w × (op ≡ texts.rename_property path name)
 Asks w (insert_comment path place text) op = HasValueAt path w × (op ≡ texts.insert_comment path place (chars text))

@@ -10,6 +10,7 @@ use Rattle.jsonc_edit.specs.Comments.{IsTakenOut}
 use Rattle.jsonc_edit.specs.Reading.{IsReplaced, IsReplacedRaw}
 use Rattle.jsonc_text.specs.declared.edit.TrailingCommaMode.{TrailingCommaMode}
 use Rattle.jsonc_edit.specs.commenting.Come.{LeavesCome}
+use Rattle.jsonc_edit.specs.commas.InPlace.{CommasPut}
 use Rattle.jsonc_edit.specs.commas.InTurn.{holders, AreSetInPart, AreSetInTurn}
 use Rattle.jsonc_edit.specs.commas.Laws.{StaysApart}
 use Rattle.jsonc_edit.specs.multiline.Multiline.{MadeMultiline}
@@ -48,6 +49,7 @@ pub data IsCall (old new : List Node) : ℕ → Type 0 where
   property_comes : (c i m : ℕ) (name : List ℕ) (v : Plain) → PropertyPut old new c i name v m → IsCall old new c
   commas_set : (mode : TrailingCommaMode) (n : ℕ) → AreSetInTurn mode old (holders old n) new → IsCall old new n
   some_commas_set : (mode : TrailingCommaMode) (n : ℕ) → AreSetInPart mode old (holders old n) new → IsCall old new n
+  commas_put : (n : ℕ) → CommasPut n old new → IsCall old new n
   sorted : (c : ℕ) (h : Headers) (order : List ℕ) → Rearranged old new c h order → IsCall old new c
   comment_comes : (n c place : ℕ) (contents : List Content) → parent_at old n ≡ Some c → LeavesCome old new c place contents → IsCall old new n
 

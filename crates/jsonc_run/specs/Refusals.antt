@@ -15,6 +15,7 @@ use Rattle.jsonc_text.specs.Gaps.{IsComment}
 use Rattle.jsonc_text.specs.Plain.{Plain}
 use Rattle.jsonc_tree.specs.Content.{comment}
 use Rattle.jsonc_sound.specs.Lines.{is_line_comment}
+use Rattle.jsonc_edit.specs.commas.InPlace.{CommaIsOut, CommasPut}
 use Rattle.jsonc_edit.specs.commas.InTurn.{holders, AreSetInPart}
 use Rattle.jsonc_edit.specs.Comments.{WantsSpace}
 use Rattle.jsonc_text.specs.declared.edit.TrailingCommaMode.{TrailingCommaMode}
@@ -32,7 +33,7 @@ use Rattle.jsonc_insert.specs.named.Named.{EnsureError}
 use Rattle.jsonc_edit.specs.set.Shapes.{is_of}
 use Rattle.jsonc_run.specs.Places.{IsContainerAt, AtPlace, IsFound}
 use Rattle.jsonc_run.specs.Depth.{needs_at, needs_in}
-use Rattle.jsonc_run.specs.Edits.{PlainEdit, remove, remove_comment, clear_root, ensure_root, ensure_value, set_boolean, ensure_multiline, insert_element, append_element, insert_property, append_property, ensure_property, set_commas, set_some_commas, rename_property, insert_comment, place_of, EditStep}
+use Rattle.jsonc_run.specs.Edits.{PlainEdit, remove, remove_comment, clear_root, ensure_root, ensure_value, set_boolean, ensure_multiline, insert_element, append_element, insert_property, append_property, ensure_property, set_commas, set_some_commas, rename_property, insert_comment, put_commas, place_of, EditStep}
 
 -- a node stands where the edit is to be made; edits of the root always have their place
 abbrev pub HasItsPlace : List Node → PlainEdit → Type 0
@@ -77,6 +78,7 @@ RefusedAt ns n (append_property path name v) why = why ≡ refusal ns n
 RefusedAt ns n (ensure_property path name shape how) why = EnsureError shape how ns n name why
 RefusedAt ns n (set_commas path mode) why = (why ≡ OutOfMemory) × (mode ≡ IfMultiline) × WantsSomeComma ns n
 RefusedAt ns n (set_some_commas path mode) why = ⊥
+RefusedAt ns n (put_commas whole path) why = (why ≡ OutOfMemory) × CommaIsOut ns n
 RefusedAt ns n (rename_property path name) why = RenameError ns n why
 RefusedAt ns n (insert_comment path place text) why = CommentError place ns n text why
 RefusedAt ns n e why = why ≡ OutOfMemory
@@ -111,11 +113,13 @@ MayFailWith w e InvalidComment = InsertsNoComment e
 MayFailWith w e LineContinues = InsertsLineAfter e
 MayFailWith w e why = ⊥
 
--- What a refused edit leaves: the document and all nodes that were there as they were; or commas were to be set, and those of the first have been.
+-- What a refused edit leaves: the document and all nodes that were there as they were; or commas were to be set, and those of the first have been; or to
+-- be put in place, and some have been.
 pub data IsLeft (old : List Node) : PlainEdit → List Node → Type 0 where
   as_it_was : {e : PlainEdit} {new : List Node} → Keeps (length old) old new → ordered_tree new 0 ≡ ordered_tree old 0 → IsLeft old e new
   set_in_part : {path : List ℕ} {mode : TrailingCommaMode} {new : List Node} (n : ℕ) → IsContainerAt old path n → AreSetInPart mode old (holders old n) new
       → IsLeft old (set_commas path mode) new
+  put_in_part : {path : List ℕ} {new : List Node} (n : ℕ) → IsContainerAt old path n → CommasPut n old new → IsLeft old (put_commas true path) new
 
 -- What is answered: the edit was made, or the error tells why it was not, and what it leaves.
 pub record IsAnswer (old new : List Node) (e : PlainEdit) (r : Result (Unit {0}) EditError) : Type 0 where

@@ -11,6 +11,7 @@ use Rattle.jsonc_sound.specs.ChangeLaws.{DiffersIn}
 use Rattle.jsonc_sound.specs.TreeChanges.{leaves_of, property_of, DocumentChanged}
 use Rattle.jsonc_layout.specs.from_input.Layout.{Layout}
 use Rattle.jsonc_edit.specs.commas.Laws.{IsAsSaid, OnlyCommas}
+use Rattle.jsonc_edit.specs.commas.Moves.{is_in_place, PutsCommas}
 use Rattle.jsonc_edit.specs.commenting.Laws.{GainsComment, StandsAbove, StandsBehind}
 use Rattle.jsonc_edit.specs.SeamEntries.{PropertyHolds, PropertyReplacedWithSeam}
 use Rattle.jsonc_layout.specs.from_input.Laid.{laid, laid_property, string_leaf}
@@ -29,7 +30,7 @@ use Rattle.jsonc_text.specs.declared.edit.Place.{Place}
 use Rattle.jsonc_text.specs.declared.edit.Place.TheVariants.{Above, After}
 use Rattle.jsonc_text.specs.declared.edit.TrailingCommaMode.{TrailingCommaMode}
 use Rattle.jsonc_sort.specs.Laws.{SortsEntries}
-use Rattle.jsonc_run.specs.texts.Edits.{Operation, nothing, replace, set_boolean, replace_property, come_first, insert, remove, remove_comment, clear_root, ensure_multiline, set_commas, rearrange, rename_property, insert_comment, options_behind, is_odd_blank, Has, marks_written, text_of_marks}
+use Rattle.jsonc_run.specs.texts.Edits.{Operation, nothing, replace, set_boolean, replace_property, come_first, insert, remove, remove_comment, clear_root, ensure_multiline, set_commas, rearrange, rename_property, insert_comment, put_commas, options_behind, is_odd_blank, Has, marks_written, text_of_marks}
 use Rattle.jsonc_run.specs.EntriesHeld.{EntryHolds}
 use Rattle.jsonc_run.specs.texts.Entries.{Named}
 use Rattle.jsonc_run.specs.texts.Paths.{an_array, an_object}
@@ -71,6 +72,7 @@ pub data IsChanged : Option Plain → Operation → Option Plain → Type 0 wher
   by_commas : {w : Option Plain} {whole : Bool} {path : List ℕ} {mode : TrailingCommaMode} → IsChanged w (set_commas whole path mode) w
   by_sorting : {by_blank_lines : Bool} {path order : List ℕ} {x y : Plain} → SortsEntries path order x y → IsChanged (Some x) (rearrange by_blank_lines path order) (Some y)
   by_name : (path : List ℕ) (i : ℕ) {name : List ℕ} {x y : Plain} → RenamesMember path i name x y → IsChanged (Some x) (rename_property (path ++ i ∷ []) name) (Some y)
+  by_putting : {w : Option Plain} {whole : Bool} {path : List ℕ} → IsChanged w (put_commas whole path) w
   by_inserting_comment : {w : Option Plain} {path comment : List ℕ} {place : Place} → IsChanged w (insert_comment path place comment) w
 
 -- an entry has left a sound document, with what leaves with it and no more; or the document's value has
@@ -143,6 +145,7 @@ IsMarked x (set_commas whole path mode) y = y ≡ x
 IsMarked x (rearrange by_blank_lines path order) y = (test : Mark → Bool) → count_by test y ≡ count_by test x
 IsMarked x (rename_property path name) y = (was : List Mark) × MarksDifferIn was (marks.literal (spelled name) ∷ []) x y
 IsMarked x (insert_comment path place comment) y = MarksDifferIn [] (comment_mark comment ∷ []) x y
+IsMarked x (put_commas whole path) y = y ≡ x
 
 -- the value at the path has changed, and nothing outside of it
 abbrev pub IsChangedAt : List ℕ → OrderedTree → OrderedTree → Type 0
@@ -168,3 +171,5 @@ MadeIn o t (rearrange by_blank_lines path order) u = (sorted : SortedAt path ord
 MadeIn o t (rename_property path name) u = RenamesProperty name t u path
 MadeIn o t (insert_comment path Above comment) u = CommentInserted path Above comment t u × PrintsNoBlank (insert_comment path Above comment) t u
 MadeIn o t (insert_comment path After comment) u = CommentInserted path After comment t u
+MadeIn o t (put_commas true path) u = PutsCommas 0 t u × (at : IsChangedAt path t u) × IsTrue (is_in_place at.1.content at.1.below)
+MadeIn o t (put_commas false path) u = PutsCommas 0 t u × IsChangedAt path t u

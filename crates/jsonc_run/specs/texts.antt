@@ -6,4 +6,5 @@ pub mod Entering
 pub mod Sorting
 pub mod Leaving
 pub mod Edits
+pub mod Commas
 pub mod Commenting

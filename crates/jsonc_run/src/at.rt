@@ -6,7 +6,7 @@ ghost use Rattle.jsonc_run.specs.Edits as op;
 ghost use Rattle.jsonc_run.specs.Refusals.{IsAnswer};
 
 use crate::places::{Needed, find_comment, find_container, find_entry, find_needed, find_property};
-use jsonc_edit::commas::set_trailing_commas;
+use jsonc_edit::commas::{put_commas, set_trailing_commas};
 use jsonc_edit::commenting::insert_comment;
 use jsonc_edit::multiline::ensure_multiline;
 use jsonc_edit::remove::remove;
@@ -318,6 +318,19 @@ pub(crate) fn set_commas_at<A: Allocator>(
         return Err(EditError::NoSuchPlace);
     };
     set_trailing_commas(tree, container, mode)
+}
+
+// Puts the commas of the array or object at a path in place, and of those below it.
+pub(crate) fn put_commas_at<A: Allocator>(
+    tree: &mut Tree<A>,
+    path: &[usize],
+) -> Result<(), EditError>
+    ensures { IsAnswer tree.old.nodes tree.new.nodes (op.put_commas path.now) result }
+{
+    let Some(container) = find_container(tree, path) else {
+        return Err(EditError::NoSuchPlace);
+    };
+    put_commas(tree, container)
 }
 
 // Inserts a comment above the entry at a path, or after it.

@@ -106,4 +106,11 @@ pub enum Edit<A: Allocator> {
     /// `/*c*/` after its first element is `[1, /*c*/ 2]`. Any other text is an error, and so is, after
     /// an entry, a comment that begins with `//` where anything follows on the line.
     InsertComment(Vec<usize, A>, Place, String<A>),
+    /// Puts the commas of the array or object at a path in place, and those of all below it.
+    ///
+    /// Each is put directly after its element or property, and after block comments on its line; a
+    /// missing one is inserted directly after the element or property. No trailing comma is inserted
+    /// or removed. Memory is allocated only for a comma that was not in place; where that fails,
+    /// others may have been put in place.
+    PutCommas(Vec<usize, A>),
 }

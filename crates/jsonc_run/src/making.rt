@@ -14,9 +14,9 @@ ghost use Rattle.jsonc_run.specs.Steps.{MakesSteps};
 
 use crate::at::{
     append_element_at, append_property_at, ensure_multiline_at, ensure_property_at, ensure_value,
-    ensure_value_at, insert_comment_at, insert_element_at, insert_property_at, remove_at,
-    remove_entry, rename_at, replace_at, replace_property_at, set_boolean_at, set_commas_at,
-    set_value, set_value_at,
+    ensure_value_at, insert_comment_at, insert_element_at, insert_property_at, put_commas_at,
+    remove_at, remove_entry, rename_at, replace_at, replace_property_at, set_boolean_at,
+    set_commas_at, set_value, set_value_at,
 };
 use crate::depth::is_too_deep;
 use crate::edit::Edit;
@@ -101,6 +101,7 @@ fn make_by_kind<A: Allocator + Copy>(
         Edit::InsertComment(path, place, text) => insert_comment_at(
             alloc, tree, path, *place, text,
         ),
+        Edit::PutCommas(path) => put_commas_at(tree, path),
         Edit::Sort(_, _, _) => unreachable!(),
     }
 }

@@ -36,7 +36,7 @@ fn comma_wanted_behind<A: Allocator>(tree: &Tree<A>, container: usize) -> Option
 }
 
 // Takes a child out.
-fn take_out<A: Allocator>(tree: &mut Tree<A>, container: usize, child: usize)
+pub(crate) fn take_out<A: Allocator>(tree: &mut Tree<A>, container: usize, child: usize)
     requires { parent_at tree.old.nodes child ≡ Some container }
     ensures taken { TakesOut tree.old.nodes tree.new.nodes container child }
 {
@@ -54,7 +54,7 @@ fn take_comma<A: Allocator>(tree: &mut Tree<A>, container: usize)
 }
 
 // Puts a comma directly after a child.
-fn put_comma<A: Allocator>(
+pub(crate) fn put_comma<A: Allocator>(
     tree: &mut Tree<A>,
     container: usize,
     node: usize,

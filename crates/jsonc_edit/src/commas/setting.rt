@@ -121,7 +121,11 @@ fn next_from<A: Allocator>(tree: &Tree<A>, end: usize, node: usize) -> Option<us
 }
 
 // From a node on, the first array or object that is reached, in the order of the document.
-fn holder_from<A: Allocator>(tree: &Tree<A>, end: usize, from: Option<usize>) -> Option<usize>
+pub(crate) fn holder_from<A: Allocator>(
+    tree: &Tree<A>,
+    end: usize,
+    from: Option<usize>,
+) -> Option<usize>
     requires in_tree { IsThere tree.now.nodes from }
     requires over { IfSome from (IsOver tree.now.nodes end) }
     requires inside { IfSome from (IsOpen tree.now.nodes end) }
@@ -141,7 +145,7 @@ fn holder_from<A: Allocator>(tree: &Tree<A>, end: usize, from: Option<usize>) ->
 }
 
 // The next array or object after one.
-fn next_holder<A: Allocator>(tree: &Tree<A>, end: usize, node: usize) -> Option<usize>
+pub(crate) fn next_holder<A: Allocator>(tree: &Tree<A>, end: usize, node: usize) -> Option<usize>
     requires in_tree { node < length tree.now.nodes }
     requires over { IsOver tree.now.nodes end node }
     requires met { IsTrue (is_met tree.now.nodes end node) }

@@ -27,6 +27,7 @@ pub enum Change {
     SetBoolean(bool),
     EnsureMultiline,
     SetTrailingCommas(TrailingCommaMode),
+    PutCommas,
     /// The same, by the call on the array or object of the document.
     SetCommasOfValue(TrailingCommaMode),
     /// Whether blank lines pin the comments above, and whether groups are kept.
@@ -81,6 +82,7 @@ fn edit_at<A: Allocator + Copy>(
         Change::SetTrailingCommas(mode) | Change::SetCommasOfValue(mode) => {
             Ok(Edit::SetTrailingCommas(path, mode))
         }
+        Change::PutCommas => Ok(Edit::PutCommas(path)),
         Change::Sort(pins, groups) => Ok(Edit::Sort(path, pins, groups)),
         Change::Value(way, text) => Ok(put(path, way, value_of(alloc, text)?)),
         Change::Property(way, name, text) => {

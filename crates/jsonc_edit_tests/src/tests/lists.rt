@@ -25,7 +25,7 @@ const SET: &str = "[\n  1,\n  {\"a\": [2]},\n]";
 type OneEdit = (Memory, Step, &'static str, &'static str);
 
 /// A removal wants memory for a space that is due alone.
-static SINGLE: [OneEdit; 28] = [
+static SINGLE: [OneEdit; 31] = [
     (
         Memory::Some,
         (&[], Change::RemoveComment(0)),
@@ -113,6 +113,24 @@ static SINGLE: [OneEdit; 28] = [
         "[[\n  7,\n  [8]\n], 2]",
     ),
     (Memory::Some, (&[], SET_COMMAS), BARE, SET),
+    (
+        Memory::Some,
+        (&[], Change::PutCommas),
+        "[1 // a\n, 2]",
+        "[1, // a\n 2]",
+    ),
+    (
+        Memory::Some,
+        (&[0], Change::PutCommas),
+        "[[1 2] 3]",
+        "[[1, 2] 3]",
+    ),
+    (
+        Memory::None,
+        (&[], Change::PutCommas),
+        "[1, [2 /*b*/, 3,],]",
+        "[1, [2 /*b*/, 3,],]",
+    ),
     (Memory::None, (&[1], Change::Remove), "[1, 2]", "[1]"),
     (
         Memory::None,

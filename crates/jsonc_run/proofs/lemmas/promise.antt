@@ -75,3 +75,5 @@ pub mod EntriesHeld
 pub mod CommasBehind
 pub mod CommentsCome
 pub mod CommentsInserted
+pub mod CommasPlaced
+pub mod InPlace

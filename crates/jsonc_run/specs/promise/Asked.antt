@@ -1,5 +1,5 @@
 -- What a list of edits makes of a text, in the words of texts.
-use Rattle.std.specs.Prelude.{◌≡◌, ◌↔◌, ◌<◌, ℕ, false, List, [], ◌∷◌, Some, length, take}
+use Rattle.std.specs.Prelude.{◌≡◌, ◌↔◌, ◌<◌, ℕ, false, true, List, [], ◌∷◌, Some, length, take}
 use Rattle.std.specs.List.{slice_get, All}
 use Rattle.jsonc_text.specs.Documents.{Document, IsOne}
 use Rattle.jsonc_run.specs.texts.Edits as texts
@@ -11,8 +11,8 @@ use Rattle.jsonc_text.specs.declared.edit.EditError.{EditError}
 use Rattle.jsonc_text.specs.declared.edit.EditError.TheVariants.{NoSuchPlace}
 use Rattle.jsonc_text.specs.declared.edit.TrailingCommaMode.{TrailingCommaMode}
 use Rattle.jsonc_run.specs.declared.edit.Edit.{Edit}
-use Rattle.jsonc_run.specs.declared.edit.Edit.TheVariants.{RemoveComment, SetTrailingCommas}
-use Rattle.jsonc_run.specs.Edits.{PlainEdit, operation_of, set_commas, unsorted, Fits}
+use Rattle.jsonc_run.specs.declared.edit.Edit.TheVariants.{PutCommas, RemoveComment, SetTrailingCommas}
+use Rattle.jsonc_run.specs.Edits.{PlainEdit, operation_of, put_commas, set_commas, unsorted, Fits}
 use Rattle.jsonc_run.specs.Named.{HasContainerAt, Asks}
 use Rattle.jsonc_run.specs.Refusals.{MayFailWith}
 use Rattle.jsonc_run.specs.promise.Within.{StaysWithin}
@@ -25,6 +25,7 @@ in_order order e = operation_of (record unsorted { order = order }) e
 abbrev pub HasPlace : {A : Type 0} → Document → Edit A → Type 0
 HasPlace d (RemoveComment number) = number < length (comments_of d.marks)
 HasPlace d (SetTrailingCommas path mode) = HasContainerAt path.items d.value
+HasPlace d (PutCommas path) = HasContainerAt path.items d.value
 HasPlace d e = (op : Operation) × Asks d.value (operation_of unsorted e) op
 
 -- From the one document the edits lead to the other: each has its place in the document that the one before it made, and leads from there to the next by the
@@ -39,10 +40,12 @@ pub data EditsTo {A : Type 0} : Document → List (Edit A) → Document → Type
 abbrev pub EditsTheText : {A : Type 0} → OrderedTree → List (Edit A) → OrderedTree → Type 0
 EditsTheText t edits u = (d : Document) → Shows d t → All (Fits d.options) edits → (e : Document) × Shows e u × EditsTo d edits e × StaysWithin d e
 
--- of an edit that was refused nothing is done; or, where it was to set trailing commas, some of them are set, or taken away
+-- of an edit that was refused nothing is done; or, where it was to set trailing commas, some of them are set, or taken away; or, where
+-- commas were to be put in place, some of them are
 pub data IsBegun {A : Type 0} (next : Edit A) : List Operation → Type 0 where
   nothing : IsBegun next []
   some_commas : (path : List ℕ) {mode : TrailingCommaMode} → operation_of unsorted next ≡ set_commas path mode → IsBegun next (texts.set_commas false path mode ∷ [])
+  some_put : (path : List ℕ) → operation_of unsorted next ≡ put_commas true path → IsBegun next (texts.put_commas false path ∷ [])
 
 -- The first k edits lead from d to m. The next one was refused, in a sound document, and for want of a place exactly where m has none. What was done of
 -- it leads to e, which is nested no deeper than texts are parsed, if d is not.

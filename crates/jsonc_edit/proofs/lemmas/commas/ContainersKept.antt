@@ -43,7 +43,7 @@ comma_leaf Content.array e = cc
 comma_leaf Content.property e = cc
 comma_leaf c e = refl
 
-past_leaf : (ns : List Node) (n : ℕ) → length ns ≤ n → is_container_at ns n ≡ false
+pub past_leaf : (ns : List Node) (n : ℕ) → length ns ≤ n → is_container_at ns n ≡ false
 past_leaf ns n h = ap (λ (x : Node). is_container x.content) (get_or_past ns n nowhere h)
 
 -- a leaf of a row is left out of its containers
@@ -58,7 +58,7 @@ tested_apart q n m e f =
       | inr apart ↦ apart
     ]
 
-lone_out : (n m : ℕ) → eqb n m ≡ false → is_in n (m ∷ []) ≡ false
+pub lone_out : (n m : ℕ) → eqb n m ≡ false → is_in n (m ∷ []) ≡ false
 lone_out n m e = ap (λ b. b || false) e
 
 -- a child, a leaf, is taken out
@@ -135,7 +135,7 @@ module _ (old new : List Node) (c n : ℕ) (r : CommaInsertedAfter old new c n) 
   abbrev old_row : List ℕ
   old_row = children_at r.ready c
 
-  none_between : slice_range old_row gap gap ≡ []
+  pub none_between : slice_range old_row gap gap ≡ []
   none_between =
       let none : gap - gap ≡ 0 = omega arith in
       ap (λ k. take k (drop gap old_row)) none

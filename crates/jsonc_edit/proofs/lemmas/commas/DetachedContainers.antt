@@ -28,7 +28,7 @@ abbrev AreApart : List Node → List ℕ → Type 0
 AreApart ns [] = Unit {0}
 AreApart ns (n ∷ rest) = (IsOver ns 0 n → ⊥) × IsTrue (holds_at ns n) × (n < length ns) × AreApart ns rest
 
-over_root : (ns : List Node) → IsTree ns → (c : ℕ) → IsOver ns c 0 → c ≡ 0
+pub over_root : (ns : List Node) → IsTree ns → (c : ℕ) → IsOver ns c 0 → c ≡ 0
 over_root ns tree _ IsOver.itself = refl
 over_root ns tree c (IsOver.above {c = p} said rest) = let wrong : None ≡ Some p = sym tree.root_alone ∙ said in cc
 
@@ -58,7 +58,7 @@ apart_kept old new tree after k (n ∷ rest) h = (
 )
 
 -- the document is its root with what is below it
-tree_of_top : (a b : List Node) → top_at b 0 ≡ top_at a 0 → ordered_tree b 0 ≡ ordered_tree a 0
+pub tree_of_top : (a b : List Node) → top_at b 0 ≡ top_at a 0 → ordered_tree b 0 ≡ ordered_tree a 0
 unfolding ordered_tree
 tree_of_top a b e = ap (λ (t : Top). more t.content t.below none) e
 
@@ -69,7 +69,7 @@ module _ (old new : List Node) (tree : IsTree old) (after : IsTree new) (c : ℕ
       let r : Respliced old new c = record { from = place_at old k; to = suc (place_at old k); put = []; tree = tree; in_tree = there; after = after; join = CanJoin-none old c (place_at old k) (suc (place_at old k)); spliced = s } in
       tree_of_top old new (respliced_others old new c r 0 tree.first out)
 
-  back_to_old : (ready : List Node) → Keeps (length old) old ready → (n : ℕ) → n < length old → IsOver ready 0 n → IsOver old 0 n
+  pub back_to_old : (ready : List Node) → Keeps (length old) old ready → (n : ℕ) → n < length old → IsOver ready 0 n → IsOver old 0 n
   back_to_old ready keeps _ h IsOver.itself = IsOver.itself
   back_to_old ready keeps n h (IsOver.above {c = p} said rest) =
       let was : parent_at old n ≡ Some p = sym (keeps.parent n h) ∙ said in

@@ -26,15 +26,15 @@ use Rattle.jsonc_edit.proofs.lemmas.commas.ContainersKept.{set_keeps}
 
 module _ (path : List ℕ) (c : ℕ) where
   -- the value at the path has changed alone, and still stands there
-  record Changes (old new : List Node) : Type 0 where
-    changed : DocumentChanged (top_at old c) (top_at new c) path (ordered_tree old 0) (ordered_tree new 0)
-    at : IsAt new path c
-    content : content_at new c ≡ content_at old c
+  pub record Changes (old new : List Node) : Type 0 where
+    pub changed : DocumentChanged (top_at old c) (top_at new c) path (ordered_tree old 0) (ordered_tree new 0)
+    pub at : IsAt new path c
+    pub content : content_at new c ≡ content_at old c
 
-  unchanged : (old new : List Node) → IsTree old → IsAt old path c → new ≡ old → Changes old new
+  pub unchanged : (old new : List Node) → IsTree old → IsAt old path c → new ≡ old → Changes old new
   unchanged old new tree at e = subst (λ ns. Changes old ns) (sym e) (record { changed = same_document old tree path c at; at = at; content = refl })
 
-  put_in : (old new : List Node) (h : ℕ) → RowPut old new h → c < length old → IsOver old c h → IsAt old path c → Changes old new
+  pub put_in : (old new : List Node) (h : ℕ) → RowPut old new h → c < length old → IsOver old c h → IsAt old path c → Changes old new
   put_in old new h r here over at =
       let keeps : Keeps (length old) old r.ready = r.prepared.keeps in
       record {
@@ -71,7 +71,7 @@ first_of : (ns : List Node) (top : ℕ) (xs ys : List ℕ) → AreHolders ns top
 first_of ns top [] ys h = tt
 first_of ns top (x ∷ xs) ys h = (h.0, h.1, first_of ns top xs ys h.2)
 
-element_held : (content : Content) → IsTrue (is_array_or_object content) → IsElement content
+pub element_held : (content : Content) → IsTrue (is_array_or_object content) → IsElement content
 element_held array h = refl
 element_held object h = refl
 element_held content h = cc

@@ -96,18 +96,18 @@ module _ (old new : List Node) (tree : IsTree old) (after : IsTree new) (r : Kee
   to_come_same end n e = rest_same old new tree after k (is_met new end) (is_met old end) (none_holds new end) (none_holds old end) (met_same end) end n e
 
 -- the value of a property stays with its row
-value_same : (old new : List Node) → IsTree old → (p : ℕ) → p < length old → content_at old p ≡ property → SameRow old new p → value_at new p ≡ value_at old p
+pub value_same : (old new : List Node) → IsTree old → (p : ℕ) → p < length old → content_at old p ≡ property → SameRow old new p → value_at new p ≡ value_at old p
 value_same old new tree p there is s =
     let row : List ℕ = children_at old p in
     value_is_held new p (s.content p there ∙ is) ∙ ap (held_in new) s.children
     ∙ held_alike old new row (All-from_get_or (IsAlike old new) row 0 (λ i h. same_kind (content_at new (get_or row i 0)) (content_at old (get_or row i 0)) (s.content (get_or row i 0) (tree.in_tree p i h))))
     ∙ sym (value_is_held old p is)
 
-the_property : (w : Content) → is_property w ≡ true → w ≡ property
+pub the_property : (w : Content) → is_property w ≡ true → w ≡ property
 the_property Content.property e = refl
 the_property w e = cc
 
-holds_no_property : (w : Content) → IsTrue (is_array_or_object w) → w ≡ property → ⊥
+pub holds_no_property : (w : Content) → IsTrue (is_array_or_object w) → w ≡ property → ⊥
 holds_no_property w h e = false≢true (sym (ap is_array_or_object e) ∙ h)
 
 module _ (mode : TrailingCommaMode) (old new : List Node) (tree : IsTree old) (c : ℕ) (holds : IsTrue (holds_at old c)) (s : CommaIsSet mode old new c) where

@@ -20,7 +20,7 @@ use Rattle.jsonc_layout.proofs.lemmas.from_input.Texts.{of_texts}
 use Rattle.jsonc_run.specs.declared.edit.Edit.{Edit}
 use Rattle.jsonc_run.specs.Depth.{needs_at}
 use Rattle.jsonc_run.specs.Edits.{append_element, append_property, insert_element, is_whole, operation_of, remove, replace, set_root, unsorted, PlainEdit}
-use Rattle.jsonc_run.specs.Refusals.{as_it_was, set_in_part, IsLeft}
+use Rattle.jsonc_run.specs.Refusals.{as_it_was, put_in_part, set_in_part, IsLeft}
 use Rattle.jsonc_run.specs.Named.{entry}
 use Rattle.jsonc_run.specs.texts.Edits as texts
 use Rattle.jsonc_run.specs.texts.Edits.{Operation}
@@ -42,7 +42,7 @@ use Rattle.jsonc_parser.specs.patch.Operations as value
 use Rattle.jsonc_parser.specs.patch.Operations.{as_whole, in_member, Adds}
 use Rattle.jsonc_parser.specs.patch.MadeBy as by
 use Rattle.jsonc_parser.specs.patch.References.{IsIndex, Refers, RefersTo}
-use Rattle.jsonc_parser.proofs.lemmas.paths.EditOutcome.{whole_no_commas}
+use Rattle.jsonc_parser.proofs.lemmas.paths.EditOutcome.{whole_no_commas, whole_no_put}
 use Rattle.jsonc_parser.proofs.lemmas.patch.Made.{does_so, options_so, root_options, root_set, Led}
 use Rattle.jsonc_parser.proofs.lemmas.patch.Nodes.{array_value, its, there}
 use Rattle.jsonc_parser.proofs.lemmas.patch.Operating.{element_added, last_item, last_member, member_added, removed, replaced, same_array, stands, was_referred}
@@ -180,6 +180,7 @@ kept_same doc = record { tree = refl; nodes = record { len = omega arith; conten
 pub left_kept : {A : Type 0} (edit : Edit A) (old new : CstRootNode A) (op : PlainEdit) → is_whole edit ≡ true → operation_of unsorted edit ≡ op → IsLeft (nodes_of old) op (nodes_of new) → IsKept old new
 left_kept edit old new op all is (as_it_was kept same) = record { tree = same; nodes = kept }
 left_kept edit old new _ all is (set_in_part {path = path} {mode = mode} n at part) = absurd (whole_no_commas edit path mode all is)
+left_kept edit old new _ all is (put_in_part {path = path} n at part) = absurd (whole_no_put edit path all is)
 
 pub refused_kept : {A E : Type 0} (edit : Edit A) (old new : CstRootNode A) (r : Result (Unit {0}) E) → is_whole edit ≡ true → OnErr r (IsLeft (nodes_of old) (operation_of unsorted edit) (nodes_of new)) → OnErr r (IsKept old new)
 refused_kept edit old new (Ok x) all left = tt

@@ -13,10 +13,10 @@ use Rattle.jsonc_text.specs.declared.edit.EditError.{EditError}
 use Rattle.jsonc_text.specs.declared.edit.EditError.TheVariants.{OutOfMemory}
 use Rattle.jsonc_text.specs.declared.edit.Over.{Over}
 use Rattle.jsonc_run.specs.declared.edit.Edit.{Edit}
-use Rattle.jsonc_run.specs.declared.edit.Edit.TheVariants.{Remove, Sort, SetTrailingCommas}
+use Rattle.jsonc_run.specs.declared.edit.Edit.TheVariants.{PutCommas, Remove, Sort, SetTrailingCommas}
 use Rattle.jsonc_text.specs.declared.edit.TrailingCommaMode.{TrailingCommaMode}
-use Rattle.jsonc_run.specs.Edits.{PlainEdit, is_sort, is_whole, operation_of, set_commas, unsorted, EditStep}
-use Rattle.jsonc_run.specs.Refusals.{IsLeft, as_it_was, set_in_part, FailsWith}
+use Rattle.jsonc_run.specs.Edits.{PlainEdit, is_sort, is_whole, operation_of, put_commas, set_commas, unsorted, EditStep}
+use Rattle.jsonc_run.specs.Refusals.{IsLeft, as_it_was, put_in_part, set_in_part, FailsWith}
 use Rattle.jsonc_run.proofs.SoundChain.{of_characters}
 use Rattle.jsonc_cst.specs.declared.cst.CstRootNode.{CstRootNode}
 use Rattle.jsonc_cst.specs.Document.{nodes_of, tree_of}
@@ -38,9 +38,14 @@ pub whole_no_commas : {A : Type 0} (e : Edit A) (path : List ℕ) (mode : Traili
 whole_no_commas (SetTrailingCommas path mode) q m whole is = let wrong : false ≡ true = whole in cc
 whole_no_commas e q m whole is = cc
 
+pub whole_no_put : {A : Type 0} (e : Edit A) (path : List ℕ) → is_whole e ≡ true → operation_of unsorted e ≡ put_commas true path → ⊥
+whole_no_put (PutCommas path) q whole is = let wrong : false ≡ true = whole in cc
+whole_no_put e q whole is = cc
+
 left_whole : {A : Type 0} (e : Edit A) (old new : List Node) (op : PlainEdit) → is_whole e ≡ true → operation_of unsorted e ≡ op → IsLeft old op new → ordered_tree new 0 ≡ ordered_tree old 0
 left_whole e old new op whole is (as_it_was kept same) = same
 left_whole e old new _ whole is (set_in_part {path = path} {mode = mode} n at part) = absurd (whole_no_commas e path mode whole is)
+left_whole e old new _ whole is (put_in_part {path = path} n at part) = absurd (whole_no_put e path whole is)
 
 -- what a refused edit leaves prints the same
 pub left_alone : {A T E : Type 0} (e : Edit A) (old new : List Node) (r : Result T E) → is_whole e ≡ true → OnErr r (IsLeft old (operation_of unsorted e) new) → OnErr r (ordered_tree new 0 ≡ ordered_tree old 0)

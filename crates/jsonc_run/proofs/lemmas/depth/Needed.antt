@@ -79,6 +79,7 @@ module _ (o : Options) (ns : List Node) (tree : IsTree ns) (w : Option Plain) (v
   needs_same (edits.ensure_property path name shape how) n at = object_needs path n 2 at
   needs_same (edits.set_commas path mode) n at = refl
   needs_same (edits.set_some_commas path mode) n at = refl
+  needs_same (edits.put_commas whole path) n at = refl
   needs_same (edits.rearrange by_blank_lines path headers order) n at = refl
   needs_same (edits.rename_property path name) n at = refl
   needs_same (edits.insert_comment path place text) n at = refl
@@ -164,6 +165,7 @@ module _ (w : Option Plain) where
   asked_needs (edits.ensure_property path name shape how) op (ms, stands, named) = named_ensured path name shape how ms op stands named
   asked_needs (edits.set_commas path mode) op is = asked op _ _ is (omega arith)
   asked_needs (edits.set_some_commas path mode) op is = asked op _ _ is (omega arith)
+  asked_needs (edits.put_commas whole path) op is = asked op _ _ is (omega arith)
   asked_needs (edits.rearrange by_blank_lines path headers order) op (there, is) = asked op _ _ is (omega arith)
   asked_needs (edits.rename_property path name) op (there, is) = asked op _ _ is (omega arith)
   asked_needs (edits.insert_comment path place text) op (there, is) = asked op _ _ is (omega arith)
@@ -195,6 +197,7 @@ module _ (w : Option Plain) where
   needs_as_asked (edits.ensure_property path name shape how) op (ms, stands, named) = named_asks path name shape how ms op stands named
   needs_as_asked (edits.set_commas path mode) op is = omega arith
   needs_as_asked (edits.set_some_commas path mode) op is = omega arith
+  needs_as_asked (edits.put_commas whole path) op is = omega arith
   needs_as_asked (edits.rearrange by_blank_lines path headers order) op (there, is) = omega arith
   needs_as_asked (edits.rename_property path name) op (there, is) = omega arith
   needs_as_asked (edits.insert_comment path place text) op (there, is) = omega arith

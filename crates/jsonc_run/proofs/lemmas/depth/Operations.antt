@@ -93,6 +93,7 @@ module _ (d e : Document) where
   does_keep texts.clear_root h = subst (λ x. around_in x ≤ max (around_in d.value) 0) (sym h.1) (omega arith)
   does_keep (texts.ensure_multiline path) h = same 0 h.2.0
   does_keep (texts.set_commas whole path mode) h = same 0 h.0.1.0
+  does_keep (texts.put_commas whole path) h = same 0 h.1.0
   does_keep (texts.rearrange by_blank_lines path order) h =
       let none : Named = record { name = []; value = Plain.null } in
       no_more 0 (becomes_no_deeper (of h.0 h.1) (of h.0 (map (λ i. get_or h.1 i none) order)) path d.value e.value h.3 (sorted_around h.0 h.1 none order h.2))

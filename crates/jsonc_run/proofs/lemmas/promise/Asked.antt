@@ -17,13 +17,13 @@ use Rattle.jsonc_text.specs.declared.edit.TrailingCommaMode.{TrailingCommaMode}
 use Rattle.jsonc_text.specs.declared.edit.EditError.TheVariants.{NoSuchPlace}
 use Rattle.jsonc_run.specs.declared.edit.Edit.{Edit}
 use Rattle.jsonc_run.specs.declared.edit.Edit.TheVariants.{Sort}
-use Rattle.jsonc_run.specs.Edits.{PlainEdit, Sorting, operation_of, set_some_commas, unsorted, EditSteps, first_made, none_made, Fits, IsOfCharacters, Allows}
+use Rattle.jsonc_run.specs.Edits.{PlainEdit, Sorting, operation_of, put_commas, set_some_commas, unsorted, EditSteps, first_made, none_made, Fits, IsOfCharacters, Allows}
 use Rattle.jsonc_run.specs.Named.{comment_count, IsNamed, Asks}
-use Rattle.jsonc_run.specs.Refusals.{IsLeft, FailsWith, as_it_was, set_in_part}
+use Rattle.jsonc_run.specs.Refusals.{IsLeft, FailsWith, as_it_was, put_in_part, set_in_part}
 use Rattle.jsonc_run.proofs.AskedPlaces.{place_asked, place_named}
 use Rattle.jsonc_run.proofs.NamedPlaces.{tells_unnamed}
 use Rattle.jsonc_run.proofs.Refused.{made_tree, refused_so}
-use Rattle.jsonc_run.specs.promise.Asked.{in_order, EditsTo, none_asked, one_asked, IsBegun, nothing, some_commas, StopsInText}
+use Rattle.jsonc_run.specs.promise.Asked.{in_order, EditsTo, none_asked, one_asked, IsBegun, nothing, some_commas, some_put, StopsInText}
 use Rattle.jsonc_run.specs.promise.Chains.{NamedRun, none_named, one_named}
 use Rattle.jsonc_run.specs.promise.Within.{StaysWithin}
 use Rattle.jsonc_run.proofs.lemmas.depth.Within.{AllFit, run_stays, steps_keep}
@@ -59,6 +59,9 @@ counted d t shown = sym (comments_counted (trees.marks t)) ∙ sym (ap (λ (e : 
 begun_so : (m e : Document) (path : List ℕ) (mode : TrailingCommaMode) (ops : List Operation) → Run m ops e → NamedRun m (set_some_commas path mode ∷ []) ops e → Run m (texts.set_commas false path mode ∷ []) e
 begun_so m e path mode _ run (one_named {op = op} named asks one (none_named last)) = subst (λ x. Run m (x ∷ []) e) asks one
 
+begun_put : (m e : Document) (path : List ℕ) (ops : List Operation) → Run m ops e → NamedRun m (put_commas false path ∷ []) ops e → Run m (texts.put_commas false path ∷ []) e
+begun_put m e path _ run (one_named {op = op} named asks one (none_named last)) = subst (λ x. Run m (x ∷ []) e) asks one
+
 -- what a refused edit has left
 record IsLeftSo {A : Type 0} (next : Edit A) (m : Document) (new : List Node) : Type 0 where
   e : Document
@@ -76,6 +79,11 @@ left_so now new next _ m tree after shown asked (set_in_part {path = path} {mode
     let lead = edits_lead now new (op ∷ []) tree (first_made (n, at, part) after none_made) (All-cons IsOfCharacters op [] tt (All-nil IsOfCharacters)) m shown (All-cons (Allows m.options) op [] tt (All-nil (Allows m.options))) in
     let run : Run m (texts.set_commas false path mode ∷ []) lead.0 = begun_so m lead.0 path mode lead.2 lead.3 lead.4 in
     record { e = lead.0; shown = lead.1; begun = texts.set_commas false path mode ∷ []; is_begun = some_commas path asked; done = run; within = run_stays run (λ w. omega arith) }
+left_so now new next _ m tree after shown asked (put_in_part {path = path} n at part) =
+    let op : PlainEdit = put_commas false path in
+    let lead = edits_lead now new (op ∷ []) tree (first_made (n, at, part) after none_made) (All-cons IsOfCharacters op [] tt (All-nil IsOfCharacters)) m shown (All-cons (Allows m.options) op [] tt (All-nil (Allows m.options))) in
+    let run : Run m (texts.put_commas false path ∷ []) lead.0 = begun_put m lead.0 path lead.2 lead.3 lead.4 in
+    record { e = lead.0; shown = lead.1; begun = texts.put_commas false path ∷ []; is_begun = some_put path asked; done = run; within = run_stays run (λ w. omega arith) }
 
 -- The first edits were made, and the next was refused.
 pub stops_so : {A : Type 0} (old now new : List Node) (edits : List (Edit A)) (k : ℕ) (ops : List PlainEdit) (next : Edit A) (why : EditError) → IsTree old → IsTree new → (made : EditSteps old ops now) → AllFit made → All IsOfCharacters ops

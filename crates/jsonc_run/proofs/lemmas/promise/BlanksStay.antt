@@ -7,6 +7,8 @@ use Rattle.jsonc_text.specs.Documents.{Document}
 use Rattle.jsonc_text.specs.declared.edit.Place.TheVariants.{Above, After}
 use Rattle.jsonc_text.specs.declared.edit.TrailingCommaMode.{TrailingCommaMode}
 use Rattle.jsonc_text.specs.declared.edit.TrailingCommaMode.TheVariants.{Never, IfMultiline}
+use Rattle.jsonc_run.specs.texts.Commas as placing
+use Rattle.jsonc_run.specs.texts.Commas.{PutsCommas}
 use Rattle.jsonc_run.specs.texts.Commenting.{ComesBehind}
 use Rattle.jsonc_run.specs.texts.Layout.{Layout, laid_text}
 use Rattle.jsonc_run.specs.texts.Leaving.{Leaves}
@@ -29,6 +31,14 @@ module _ (c : ℕ) (odd : IsTrue (is_odd_blank c)) where
   trailing_come texts.no_more h = h
   trailing_come (texts.keeps k) h = (h.0, trailing_come k h.1)
   trailing_come (texts.loses kind g k) h = (differs c odd 0x2C refl, trailing_come k h)
+
+  commas_stay : {n : ℕ} {x y : List ℕ} → PutsCommas n x y → Lacks c x → Lacks c y
+  commas_stay placing.no_more h = h
+  commas_stay (placing.keeps k) h = (h.0, commas_stay k h.1)
+  commas_stay (placing.passes {s = s} {x = x} {y = y} t k) h = lacks_both c s y (lacks_first c s x h) (commas_stay k (lacks_second c s x h))
+  commas_stay (placing.put k) h = (differs c odd 0x2C refl, commas_stay k h)
+  commas_stay (placing.met k) h = commas_stay k h.1
+  commas_stay (placing.missing b k) h = commas_stay k h
 
   commas_lack : (mode : TrailingCommaMode) (path : List ℕ) (d e : Document) → SetsCommas path mode d e → Lacks c d.text → Lacks c e.text
   commas_lack Never path d e s h = trailing_leave s.0 h
@@ -67,6 +77,7 @@ does_none d op e h m = no_blank_comes d (marks_written op) e (by op h m)
     by (texts.remove_comment n) h m c odd k w = text_lacks c odd m.6 tt k
     by texts.clear_root h m c odd k w = subst (Lacks c) (sym m.0) tt
     by (texts.set_commas whole path mode) h m c odd k w = commas_lack c odd mode path d e m.0 k
+    by (texts.put_commas whole path) h m c odd k w = commas_stay c odd m.0 k
     by (texts.rename_property path name) h m c odd k w = text_lacks c odd m.0.6 (subst (Lacks c) (sym m.0.8) (lacks_first c (spelled name) [] w)) k
     by (texts.insert_comment path After s) h m c odd k w = comment_lacks c odd path s d e m (lacks_first c s [] w) k
     by op h m c odd k w = cc

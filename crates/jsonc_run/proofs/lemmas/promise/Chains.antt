@@ -27,7 +27,8 @@ use Rattle.jsonc_edit.specs.set.Shapes.{empty_of}
 use Rattle.jsonc_edit.specs.remove.Laws.{ValueTaken}
 use Rattle.jsonc_edit.proofs.lemmas.remove.RemovedValue.{removes_value}
 use Rattle.jsonc_edit.proofs.OneValue.{document_once}
-use Rattle.jsonc_run.specs.Edits.{PlainEdit, set_root, clear_root, remove_comment, set_commas, set_some_commas, ensure_root, ensure_value, append_element, append_property, ensure_property, IsOfCharacters}
+use Rattle.jsonc_run.proofs.lemmas.promise.CommasPlaced.{all_put, some_put}
+use Rattle.jsonc_run.specs.Edits.{PlainEdit, set_root, clear_root, remove_comment, put_commas, set_commas, set_some_commas, ensure_root, ensure_value, append_element, append_property, ensure_property, IsOfCharacters}
 use Rattle.jsonc_run.specs.Steps.{Step, Steps, no_step, one_step}
 use Rattle.jsonc_run.specs.Named.{ensures_root, may_stay, sets_root, Asks, comment_count, IsNamed}
 use Rattle.jsonc_run.proofs.EnsuredValues.{kept_or_emptied}
@@ -142,6 +143,7 @@ asked_characters w (remove_comment number) op is h = subst OfCharacters (sym is)
 asked_characters w clear_root op is h = subst OfCharacters (sym is) tt
 asked_characters w (set_commas path mode) op is h = subst OfCharacters (sym is) tt
 asked_characters w (set_some_commas path mode) op is h = subst OfCharacters (sym is) tt
+asked_characters w (put_commas whole path) op is h = subst OfCharacters (sym is) tt
 asked_characters w e op asks h = subst OfCharacters (sym asks.1) (search)
 
 brings_none : (o : Options) (t u : OrderedTree) (w x : Option Plain) (op : Operation) → IsTrue (writes_in_place op) → Does (document_of o t w) op (document_of (options_behind o op) u x) → Makes (document_of o t w) op (document_of (options_behind o op) u x)
@@ -167,6 +169,8 @@ step_made o t u w x (texts.set_commas false path mode) s f = brings_none o t u w
 step_made o t u w x (texts.rearrange by_blank_lines path order) s f = (rearranged o t u w x by_blank_lines path order s.old.sound s.new.sound s.old.value s.new.value s.changed s.marked s.made.0 s.made.2, s.made.3)
 step_made o t u w x (texts.rename_property path name) s f = brings_none o t u w x (texts.rename_property path name) refl (name_made o t u w x path name f s.old.sound s.new.sound s.changed s.made)
 step_made o t u w x (texts.insert_comment path Above comment) s f = (remark_put o s.old.sound s.new.sound w x path Above comment s.changed s.made.0, s.made.1)
+step_made o t u w x (texts.put_commas true path) s f = brings_none o t u w x (texts.put_commas true path) refl (all_put o t u w x path s.old.sound s.new.sound s.changed s.marked s.made.0 s.made.1 s.made.2)
+step_made o t u w x (texts.put_commas false path) s f = brings_none o t u w x (texts.put_commas false path) refl (some_put o t u w x path s.old.sound s.new.sound s.changed s.marked s.made.0 s.made.1)
 step_made o t u w x (texts.insert_comment path After comment) s f = brings_none o t u w x (texts.insert_comment path After comment) refl (remark_put o s.old.sound s.new.sound w x path After comment s.changed s.made)
 
 -- a tree has as many comments as the document that it prints

@@ -74,7 +74,7 @@ further_in {y = y} {z = z} (in_object {x = c} {held = held} e g h) (in_object {p
     let inner : ElementChanged d n 1 held given = subst (λ l. ElementChanged d n 1 l given) same j in
     further_in h (subst (λ (s : Top). ValueChanged y z r s n) (sym (one_element g inner)) k)
 
-further_document : {a b y z : Top} {p q : List ℕ} {t u v : OrderedTree} → DocumentChanged a b p t u → DocumentChanged y z (p ++ q) t v → (s : Top) × ValueChanged y z q a s
+pub further_document : {a b y z : Top} {p q : List ℕ} {t u v : OrderedTree} → DocumentChanged a b p t u → DocumentChanged y z (p ++ q) t v → (s : Top) × ValueChanged y z q a s
 further_document {y = y} {z = z} {p = p} {q = q} (in_root e h) (in_root {y = n} f k) = further_in h (subst (λ (s : Top). ValueChanged y z (p ++ q) s n) (sym (one_element e f)) k)
 
 -- behind trivia

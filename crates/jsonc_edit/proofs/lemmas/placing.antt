@@ -1,0 +1,11 @@
+pub mod SoundRows
+pub mod Moves
+pub mod Keeps
+pub mod Parts
+pub mod Changes
+pub mod RowMarks
+pub mod Steps
+pub mod Chains
+pub mod Rows
+pub mod Walks
+pub mod Walking
