@@ -19,10 +19,12 @@ mod plan;
 mod print;
 mod scan;
 mod state;
-mod stop;
+pub mod stop;
 pub mod style;
 mod track;
-mod whole;
+pub mod whole;
 
 pub use format::format_text;
+pub use stop::Stop;
 pub use style::{Level, LineEnd, Style};
+pub use whole::format_pieces;

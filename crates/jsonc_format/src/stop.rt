@@ -2,7 +2,7 @@
 
 /// Memory is wanted, or the text is no lexemes and comments with blanks between them.
 #[derive(Clone, Copy, Drop)]
-pub(crate) enum Stop {
+pub enum Stop {
     Memory,
     NoPieces,
 }

@@ -15,7 +15,7 @@ use jsonc_text::options::ParseOptions;
 use std::alloc::Allocator;
 
 /// A text, formatted, where it is lexemes and comments with blanks between them.
-pub(crate) fn format_pieces<A: Allocator + Copy>(
+pub fn format_pieces<A: Allocator + Copy>(
     alloc: A,
     text: &str,
     options: &ParseOptions,

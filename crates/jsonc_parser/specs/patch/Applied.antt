@@ -26,7 +26,6 @@ use Rattle.jsonc_parser.specs.patch.Found.{IsOfShown, RefersToNode}
 use Rattle.jsonc_parser.specs.patch.Operations as value
 use Rattle.jsonc_parser.specs.patch.MadeBy.{IsMadeBy}
 use Rattle.jsonc_parser.specs.patch.Operations.{LeadInOrder, MakesAll, Makes}
-use Rattle.jsonc_parser.specs.patch.Pointer.{tokens_of}
 use Rattle.jsonc_parser.specs.patch.References.{FailsAt, IsIndex, RefersTo}
 use Rattle.jsonc_parser.specs.declared.patch.apply.PatchFault.{PatchFault}
 use Rattle.jsonc_parser.specs.declared.patch.making.PatchCause.{PatchCause}

@@ -1,5 +1,4 @@
 use Rattle.std.proofs.Common.{arith, subst, sym}
-use Rattle.std.specs.declared.alloc.Global.{Global}
 use Rattle.jsonc_c.specs.Options.{options_of}
 use Rattle.jsonc_c.specs.Patches.{IsMergedBy}
 use Rattle.jsonc_c.proofs.Patching.{unmerged_ends}

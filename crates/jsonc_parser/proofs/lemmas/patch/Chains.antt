@@ -10,7 +10,7 @@ use Rattle.std.proofs.lemmas.List.Elements.{All-cons, All-head, All-tail}
 use Rattle.jsonc_text.specs.Documents.{Document}
 use Rattle.jsonc_text.specs.Grammar.{IsDocument}
 use Rattle.jsonc_text.specs.Options.{Options}
-use Rattle.jsonc_text.specs.Plain.{Plain, Items, Members, collapse}
+use Rattle.jsonc_text.specs.Plain.{Plain, Items, Members}
 use Rattle.jsonc_edit.specs.Writing.{IsOfNumbers, AreOfNumbers, AreNamedOfNumbers}
 use Rattle.jsonc_tree.specs.OrderedTree.{ordered_tree}
 use Rattle.jsonc_layout.specs.declared.input.value.CstInputValue.{CstInputValue}
@@ -23,7 +23,7 @@ use Rattle.jsonc_run.proofs.lemmas.promise.Leads.{shown_are_documents}
 use Rattle.jsonc_cst.specs.declared.cst.CstRootNode.{CstRootNode}
 use Rattle.jsonc_cst.specs.Document.{nodes_of, tree_of}
 use Rattle.jsonc_cst.proofs.JsonValues.{document_numbers}
-use Rattle.jsonc_parser.specs.patch.Applied.{is_one_edit, FailsWhatShown, IsKept, IsMade, IsNoMemory, IsPatched, IsStopped, LeadsOn, MakesWhatShown, PatchesWhatShown, StopsWhatShown, Takes}
+use Rattle.jsonc_parser.specs.patch.Applied.{is_one_edit, FailsWhatShown, IsKept, IsMade, IsNoMemory, LeadsOn, MakesWhatShown, PatchesWhatShown, StopsWhatShown, Takes}
 use Rattle.jsonc_parser.specs.patch.Asked.{asked, FitsIn}
 use Rattle.jsonc_parser.specs.patch.Found.{IsOfShown, RefersToNode}
 use Rattle.jsonc_parser.specs.paths.Found.{names_of}

@@ -1,6 +1,6 @@
 -- The edits by which operations are made change no node that was there.
-use Rattle.std.proofs.Common.{ℕ, ◌≡◌, ◌<◌, ◌≤◌, ◌∙◌, refl, sym, ap, subst, arith, Bool, true, false, not, List, [], ◌∷◌, length, Option, Some, None, Result, Ok, Err, OnOk, inl, inr}
-use Rattle.std.proofs.lemmas.Bool.{cases_Bool, false≢true}
+use Rattle.std.proofs.Common.{ℕ, ◌≡◌, ◌∙◌, refl, sym, ap, subst, arith, not, List, [], ◌∷◌, length, Option, Some, None, Result, Ok, Err, OnOk, inl, inr}
+use Rattle.std.proofs.lemmas.Bool.{cases_Bool}
 use Rattle.jsonc_text.specs.Plain.{Plain}
 use Rattle.jsonc_tree.specs.Building.{Keeps}
 use Rattle.jsonc_tree.specs.Changes.{Splices}
@@ -8,10 +8,8 @@ use Rattle.jsonc_tree.specs.Tree.{Node, parent_at}
 use Rattle.jsonc_edit.specs.Put.{AreSpaced, Extends}
 use Rattle.jsonc_edit.specs.Reading.{IsReplaced, IsReplacedRaw}
 use Rattle.jsonc_edit.specs.remove.Removed.{is_hollow, IsClosedUp, IsTakenFrom, LosesChild, TakesElement}
-use Rattle.jsonc_edit.specs.set.RootSet.{FirstValue}
 use Rattle.jsonc_insert.specs.Inserted.{ElementPut}
 use Rattle.jsonc_insert.specs.members.Inserted.{PropertyPut}
-use Rattle.jsonc_layout.specs.nodes.Properties.{value_at}
 use Rattle.jsonc_run.specs.Edits.{RootSet}
 use Rattle.jsonc_parser.specs.patch.Room.{KeepsContents}
 

@@ -1,8 +1,7 @@
 -- One edit of a document, as an operation of a patch.
-use Rattle.std.proofs.Common.{ℕ, ◌≡◌, ◌<◌, ◌≤◌, ◌∙◌, ◌++◌, ◌⊎◌, inl, inr, sym, ap, subst, refl, List, [], ◌∷◌, length, map, min, true, Option, Some, None, Result, Ok, Err, OnErr, arith}
+use Rattle.std.proofs.Common.{ℕ, ◌≡◌, ◌<◌, ◌≤◌, ◌∙◌, ◌++◌, inl, inr, sym, ap, subst, refl, List, [], ◌∷◌, length, min, true, Result, Ok, Err, OnErr, arith}
 use Rattle.jsonc_text.specs.Documents.{Document}
-use Rattle.jsonc_text.specs.Options.{Options}
-use Rattle.jsonc_text.specs.Plain.{Plain, Items, Members, array, object}
+use Rattle.jsonc_text.specs.Plain.{array, object}
 use Rattle.jsonc_tree.specs.Content as content
 use Rattle.jsonc_tree.specs.OrderedTree.{ordered_tree}
 use Rattle.jsonc_tree.specs.Tree.{Node, content_at, IsTree}
@@ -32,7 +31,7 @@ use Rattle.jsonc_run.proofs.lemmas.promise.Plains.{list_of_members, same_members
 use Rattle.jsonc_sound.specs.Documents.{Shows}
 use Rattle.jsonc_cst.specs.declared.cst.CstRootNode.{CstRootNode}
 use Rattle.jsonc_cst.specs.declared.cst.node.CstNode.{CstNode}
-use Rattle.jsonc_cst.specs.Document.{nodes_of, tree_of}
+use Rattle.jsonc_cst.specs.Document.{nodes_of}
 use Rattle.jsonc_cst.specs.Nodes.{number_of}
 use Rattle.jsonc_cst.specs.typed.There.{entry_above, IsMadeThere}
 use Rattle.jsonc_text.specs.declared.edit.EditError.{EditError}

@@ -1,5 +1,5 @@
 -- Why an operation of a patch is not made of what a document says.
-use Rattle.std.proofs.Common.{ℕ, ◌≡◌, ◌≢◌, ◌<◌, ◌≤◌, ◌∙◌, ◌++◌, inl, inr, sym, ap, subst, refl, Bool, false, List, [], ◌∷◌, length, Option, Some, None, arith}
+use Rattle.std.proofs.Common.{ℕ, ◌≡◌, ◌≢◌, ◌∙◌, ◌++◌, inl, inr, sym, ap, subst, refl, Bool, false, List, [], ◌∷◌, length, Option, None, arith}
 use Rattle.std.specs.Bool.{Decides}
 use Rattle.std.proofs.lemmas.Bool.{false≢true}
 use Rattle.std.proofs.lemmas.List.{append-nil}
@@ -13,7 +13,7 @@ use Rattle.jsonc_edit.proofs.ChangesUpward.{Shows-row_below}
 use Rattle.jsonc_edit.proofs.lemmas.set.PropertyRows.{counted_elements}
 use Rattle.jsonc_insert.specs.elements.Laws.{item_count}
 use Rattle.jsonc_insert.proofs.lemmas.elements.Items as rows
-use Rattle.jsonc_layout.specs.input.Views.{chars_of, plain}
+use Rattle.jsonc_layout.specs.input.Views.{chars_of}
 use Rattle.jsonc_layout.specs.nodes.Siblings.{elements_at}
 use Rattle.jsonc_sound.specs.Documents.{Shows}
 use Rattle.jsonc_sound.specs.Sound.{HasValue}

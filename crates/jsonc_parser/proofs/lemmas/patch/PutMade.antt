@@ -1,8 +1,7 @@
 -- A value put where a pointer leads, by one edit that was made or refused.
-use Rattle.std.proofs.Common.{ℕ, suc, ◌≡◌, ◌≤◌, ◌<◌, ◌+◌, ◌∙◌, ◌⊎◌, sym, ap, subst, refl, inl, inr, List, [], ◌∷◌, ◌++◌, length, true, Option, Some, None, Result, Ok, Err, IfErr, OnErr, OnOk, arith}
+use Rattle.std.proofs.Common.{ℕ, ◌≡◌, ◌≤◌, ◌<◌, ◌+◌, ◌∙◌, ap, subst, refl, inl, inr, List, [], ◌∷◌, length, Option, arith}
 use Rattle.std.proofs.lemmas.Bool.{cases_lt}
 use Rattle.std.proofs.lemmas.List.{length-append}
-use Rattle.std.specs.List.{All}
 use Rattle.jsonc_text.specs.Documents.{Document}
 use Rattle.jsonc_text.specs.Options.{Options}
 use Rattle.jsonc_text.specs.Plain.{Plain, around}
@@ -10,8 +9,7 @@ use Rattle.jsonc_text.specs.declared.edit.EditError.{EditError}
 use Rattle.jsonc_text.specs.declared.edit.EditError.TheVariants.{NestingDepthExceeded, OutOfMemory}
 use Rattle.jsonc_text.specs.declared.edit.Over.{Over}
 use Rattle.jsonc_tree.specs.OrderedTree.{ordered_tree}
-use Rattle.jsonc_tree.specs.Tree.{Node, IsTree}
-use Rattle.jsonc_sound.specs.Documents.{Shows}
+use Rattle.jsonc_tree.specs.Tree.{IsTree}
 use Rattle.jsonc_run.specs.declared.edit.Edit.{Edit}
 use Rattle.jsonc_run.specs.Depth.{needs_in}
 use Rattle.jsonc_run.specs.Edits.{EditStep, PlainEdit, operation_of, unsorted}
@@ -23,10 +21,8 @@ use Rattle.jsonc_run.specs.texts.Edits.{Operation, Run, options_behind}
 use Rattle.jsonc_run.proofs.SoundChain.{of_characters}
 use Rattle.jsonc_cst.specs.declared.cst.CstRootNode.{CstRootNode}
 use Rattle.jsonc_cst.specs.Document.{nodes_of}
-use Rattle.jsonc_parser.specs.paths.Calls.{FitsAt}
 use Rattle.jsonc_parser.specs.paths.Settings.{nest}
 use Rattle.jsonc_parser.specs.patch.Applied.{IsNoRoom}
-use Rattle.jsonc_parser.specs.patch.Found.{IsOfShown}
 use Rattle.jsonc_parser.specs.patch.Putting.{IsWrittenBy, sets_root, sets_first, replaces, appends_member, appends_element, replaces_other, IsPutBy}
 use Rattle.jsonc_parser.specs.patch.PutCalls.{FailsToPut, IsPutError, PutsWhatShown}
 use Rattle.jsonc_parser.specs.patch.PutSteps.{IsChosen, IsUnnested}

@@ -1,5 +1,5 @@
 -- A member that gets another name, as a move.
-use Rattle.std.proofs.Common.{ℕ, suc, ◌≡◌, ◌<◌, ◌≤◌, ◌∙◌, ◌++◌, inl, inr, sym, ap, subst, refl, true, false, List, [], ◌∷◌, length, Option, Ok, Some, None, IfNone, arith}
+use Rattle.std.proofs.Common.{ℕ, suc, ◌≡◌, ◌<◌, ◌∙◌, ◌++◌, inl, inr, sym, ap, subst, refl, true, false, List, [], ◌∷◌, length, Option, Ok, Some, None, IfNone, arith}
 use Rattle.std.specs.Bool.{Decides}
 use Rattle.std.proofs.lemmas.Bool.{false≢true}
 use Rattle.std.proofs.lemmas.List.{append-nil}

@@ -1,5 +1,5 @@
 -- Edits of nodes, as the edits of the paths at which they are.
-use Rattle.std.proofs.Common.{◌≡◌, ◌≢◌, ◌<◌, ◌∙◌, ◌++◌, ap, sym, subst, ℕ, List, [], ◌∷◌, Option, None, Some, cond, arith}
+use Rattle.std.proofs.Common.{◌≡◌, ◌∙◌, ◌++◌, ap, sym, subst, ℕ, List, [], ◌∷◌, None, Some, cond}
 use Rattle.std.proofs.lemmas.List.{append-nil, append_assoc}
 use Rattle.jsonc_text.specs.Documents.{Document}
 use Rattle.jsonc_text.specs.declared.edit.EditError.{EditError}
@@ -14,7 +14,6 @@ use Rattle.jsonc_edit.specs.Paths.{IsAt, IsElementOf, LeadsTo}
 use Rattle.jsonc_edit.proofs.ShapedPlaces.{at_further}
 use Rattle.jsonc_edit.proofs.Uniqueness.{element_parent, node_once}
 use Rattle.jsonc_insert.specs.named.Places.{IsPropertyAt, a_property}
-use Rattle.jsonc_run.specs.Depth.{needs_at}
 use Rattle.jsonc_run.specs.Edits.{PlainEdit, place_of, Allows, IsOfCharacters, MakesAt}
 use Rattle.jsonc_run.specs.Named.{comment_count, IsNamed}
 use Rattle.jsonc_run.specs.Places.{AtPlace, IsEntryAt, an_entry, in_array, in_object, the_value}

@@ -1,4 +1,4 @@
-use Rattle.std.proofs.Common.{◌∙◌, sym}
+use Rattle.std.proofs.Common.{sym}
 use Rattle.jsonc_tree.proofs.Order.{parent_there}
 use Rattle.jsonc_cst.proofs.typed.there.entry_of.Goals as goal
 

@@ -1,4 +1,4 @@
-use Rattle.std.proofs.Common.{IfSome, [], ◌∷◌, ◌++◌, None, Option, Some, chars, subst}
+use Rattle.std.proofs.Common.{IfSome, [], ◌∷◌, ◌++◌, Option, chars, subst}
 use Rattle.std.proofs.lemmas.Str.{scalars-chars}
 use Rattle.jsonc_layout.specs.input.Views.{plain}
 use Rattle.jsonc_run.specs.Edits.{append_property, replace}

@@ -2,7 +2,6 @@ use Rattle.std.proofs.Common.{◌∙◌, refl, sym}
 use Rattle.std.proofs.lemmas.Bool.{true≢false}
 use Rattle.jsonc_layout.specs.input.Views.{plain}
 use Rattle.jsonc_cst.specs.Document.{nodes_of}
-use Rattle.jsonc_parser.specs.patch.Operations as value
 use Rattle.jsonc_parser.specs.patch.Pointer.{tokens_of}
 use Rattle.jsonc_parser.proofs.lemmas.patch.Chains.{leads_elsewhere, leads_told, moved_so, stayed}
 use Rattle.jsonc_parser.proofs.lemmas.patch.Contents.{contents_through, contents_unchanged}

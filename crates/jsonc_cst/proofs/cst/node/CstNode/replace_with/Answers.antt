@@ -1,5 +1,4 @@
 use Rattle.std.proofs.Common.{◌≡◌, ◌∙◌, false, true, refl, sym, arith}
-use Rattle.jsonc_layout.specs.input.Views.{plain}
 use Rattle.jsonc_cst.specs.typed.Steps.{is_value}
 use Rattle.jsonc_cst.proofs.cst.node.CstNode.replace_with.Goals as goal
 

@@ -1,0 +1,14 @@
+pub mod Rows
+pub mod Order
+pub mod Puts
+pub mod Coming
+pub mod Making
+pub mod Standing
+pub mod Ended
+pub mod Alone
+pub mod Nodes
+pub mod Lines
+pub mod Ends
+pub mod TreePieces
+pub mod Following
+pub mod SoundAgain

@@ -1,0 +1,5 @@
+pub mod Plans
+pub mod Leaves
+pub mod Rows
+pub mod Trees
+pub mod Laws
