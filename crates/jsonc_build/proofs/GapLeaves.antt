@@ -6,7 +6,7 @@ use Rattle.std.proofs.lemmas.Str.{encodes-chars, IsUtf8-between, len_utf8_bounds
 use Rattle.std.specs.Char.{len_utf8}
 use lib.Utf8.{encode}
 use Rattle.jsonc_text.proofs.Basics.{clash}
-use Rattle.jsonc_text.specs.Text.{rest, next, no, Many, Spans}
+use Rattle.jsonc_text.specs.Text.{rest, next, no, Many, step, Spans}
 use Rattle.jsonc_text.specs.Gaps.{IsComment}
 use Rattle.jsonc_tree.specs.Content.{Content, text_of, token, whitespace, newline, comment}
 use Rattle.jsonc_tree.specs.OrderedTree as ordered
@@ -60,6 +60,14 @@ blanks_at bytes i c w j s u b one inner order boundary run all same =
       leaf = blanks (chars (slice_range bytes i j)) (same ∙ sym (encodes-chars (slice_range bytes i j) (IsUtf8-between bytes i j u order b boundary))) (from_first one.0 inner run all) (chars_between bytes i j u spans);
     }
 
+-- the first blank, and those that follow it
+pub many_from : (bytes : List ℕ) (i c n j : ℕ) → Steps bytes i c n → IsTrue (is_inner_blank c) → Many is_inner_blank (rest bytes n) (rest bytes j) → Many is_inner_blank (rest bytes i) (rest bytes j)
+many_from bytes i c n j one inner run = subst (λ t. Many is_inner_blank t (rest bytes j)) (sym one.0) (step inner run)
+
+pub blanks_from : (bytes : List ℕ) (i c n j : ℕ) (s : List ℕ) → IsUtf8 bytes → IsCharBoundary bytes i → Steps bytes i c n → IsTrue (is_inner_blank c) → i < n → n ≤ j → IsCharBoundary bytes j
+    → Many is_inner_blank (rest bytes n) (rest bytes j) → IsTrue (no is_inner_blank (next (rest bytes j))) → s ≡ slice_range bytes i j → LeafAt bytes (whitespace s) i j
+blanks_from bytes i c n j s u b one inner first order boundary run all same = blanks_at bytes i c n j s u b one inner (omega (arith, first, order)) boundary (many_from bytes i c n j one inner run) all same
+
 -- a comma or colon at a place is a leaf
 pub mark_fills : {c : ℕ} {t r : List ℕ} → t ≡ c ∷ r → IsTrue (is_separator c) → Fills t (ordered.more (token c) ordered.none ordered.none) r
 mark_fills {c = c} {r = r} e h = subst (λ x. Fills x (ordered.more (token c) ordered.none ordered.none) r) (sym e) (leaf (mark h) end)
@@ -86,7 +94,7 @@ encodes_append : (s t : List ℕ) → encode_utf8_all (s ++ t) ≡ encode_utf8_a
 encodes_append [] t = refl
 encodes_append (c ∷ s) t = ap (λ l. encode_utf8 c ++ l) (encodes_append s t) ∙ sym (append_assoc (encode_utf8 c) (encode_utf8_all s) (encode_utf8_all t))
 
-fills_text : {t r : List ℕ} {row : OrderedTree} → Fills t row r → (s : List ℕ) × (t ≡ s ++ r) × (printed row ≡ encode_utf8_all s)
+pub fills_text : {t r : List ℕ} {row : OrderedTree} → Fills t row r → (s : List ℕ) × (t ≡ s ++ r) × (printed row ≡ encode_utf8_all s)
 fills_text end = ([], refl, refl)
 fills_text {t} {r} {row = row} (leaf {content = content} {after = after} one more) =
     let first = leaf_text one in

@@ -17,3 +17,4 @@ pub mod Building
 pub mod Parts
 pub mod FilledTo
 pub mod Documents
+pub mod TreesOfTexts

@@ -73,6 +73,10 @@ module _ (bytes : List ℕ) (i c : ℕ) (stands : Steps bytes i c (i + len_utf8 
   pub return_many : {k : CstNewlineKind} (j : ℕ) → c ≡ 13 → GapLeaf (newline k) (13 ∷ rest bytes (i + 1)) (rest bytes j) → Many is_blank (rest bytes i) (rest bytes j)
   return_many j e one = subst (λ t. Many is_blank t (rest bytes j)) (sym (stands.0 ∙ ap (λ d. d ∷ rest bytes (i + len_utf8 c)) e ∙ ap (λ n. 13 ∷ rest bytes (i + n)) (ap len_utf8 e))) (newline_many one)
 
+-- a space takes one byte
+pub space_steps : (bytes : List ℕ) (i c : ℕ) → Steps bytes i c (i + len_utf8 c) → c ≡ 0x20 → Steps bytes i 0x20 (i + 1)
+space_steps bytes i c stands e = subst (λ d. Steps bytes i d (i + len_utf8 d)) e stands
+
 -- a slash that begins no comment, or none that is allowed
 pub refused_slash : (o : Options) {t u : List ℕ} (c : ℕ) → t ≡ c ∷ u → is_blank c ≡ false → IsTrue (not (c == 0x2F) || not o.comments) → NoGap o t
 refused_slash o c e blank refused = no_gap_here o c e blank (λ allowed r k. neither (c == 0x2F) o.comments refused (subst (λ x. IsTrue (starts (λ d. d == 0x2F) (next x))) e (comment_begins k)) allowed)

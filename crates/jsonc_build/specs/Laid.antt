@@ -7,11 +7,13 @@ use Rattle.jsonc_text.specs.Options.{Options}
 use Rattle.jsonc_text.specs.Text.{next, starts, rest, Spans}
 use Rattle.jsonc_text.specs.Plain.{Plain}
 use Rattle.jsonc_tree.specs.Content.{Content, token}
-use Rattle.jsonc_tree.specs.OrderedTree.{OrderedTree, none, more, followed_by}
+use Rattle.jsonc_tree.specs.OrderedTree.{OrderedTree, none, more, followed_by, printed}
 use Rattle.jsonc_walk.specs.Located.{Located, LocatedItems, LocatedMembers, LocatedName, leaf_at, array_at, object_at, no_items_at, item_at, no_members_at, member_at, range_at, Between, IsLocatedDocument}
 use Rattle.jsonc_tree.specs.Tree.{Node}
 use Rattle.jsonc_build.specs.Growth.{Grows}
 use Rattle.jsonc_sound.specs.Leaves.{Fills}
+use Rattle.jsonc_sound.specs.Lines.{DocumentLinesEnd}
+use Rattle.jsonc_sound.specs.Shape.{DocumentShaped}
 
 -- the bytes of a range
 abbrev pub bytes_in : List ℕ → Range → List ℕ
@@ -98,3 +100,11 @@ DocumentLaid bytes x tree = (row : OrderedTree) × (tree ≡ more Content.root r
 -- each line's end is one (CR LF is one), each run of blanks is one, and so is each comma and colon.
 abbrev pub LiesIn : Options → List ℕ → OrderedTree → Type 0
 LiesIn o bytes tree = (x : Option Located) × IsLocatedDocument o bytes x × DocumentLaid bytes x tree
+
+-- a tree lies in the text, prints it, and is that of a document whose line comments end with their lines
+pub record HasTree (o : Options) (bytes : List ℕ) (x : Option Located) : Type 0 where
+  pub tree : OrderedTree
+  pub laid : DocumentLaid bytes x tree
+  pub prints : printed tree ≡ bytes
+  pub shaped : DocumentShaped o tree
+  pub lines : DocumentLinesEnd tree

@@ -70,6 +70,10 @@ fn blanks_end(text: &str, start: usize) -> usize
     let mut place = start;
     while place < bytes.len() {
         let byte = bytes[place];
+        if byte == 0x20 {
+            place += 1;
+            continue;
+        }
         if byte > 0x20 {
             if byte < 0x80 {
                 return place;
@@ -146,6 +150,31 @@ fn push_comment<A: Allocator>(
     Ok(Some(end))
 }
 
+// Adds the blanks that stand at a place, the first of which ends at `next`, and answers where they end.
+#[inline(always)]
+fn push_blanks<A: Allocator>(
+    tree: &mut Growing<A>,
+    whole: &RcStr<A>,
+    text: &str,
+    place: usize,
+    next: usize,
+) -> Result<usize, AllocError>
+    requires whole { rc_str_bytes whole.now ≡ text.now }
+    requires growing { IsGrowing tree.old }
+    requires place { IsCharBoundary text.now place }
+    requires order { place < next }
+    requires first { (c : ℕ) × IsTrue (is_inner_blank c) × Steps text.now place c next }
+    ensures added { IfOk result (AddsLeaf (nodes_so_far tree.old) (nodes_so_far tree.new) (container_of tree.old) text.now place) }
+    ensures blanks { IfOk result (λ e. Many is_blank (rest text.now place) (rest text.now e)) }
+    ensures container { OnOk result (container_of tree.new ≡ container_of tree.old) }
+    ensures growing { OnOk result (IsGrowing tree.new) }
+{
+    let end = blanks_end(text, next);
+    let blanks = Part::new(whole, place, end)?;
+    tree.push(Kind::WhitespacePart(blanks))?;
+    Ok(end)
+}
+
 // Adds the leaf that begins at a place with the blank `c`, and answers where it ends.
 #[inline(always)]
 fn push_blank<A: Allocator>(
@@ -174,10 +203,7 @@ fn push_blank<A: Allocator>(
         tree.push(Kind::Newline(newline))?;
         return Ok(end);
     }
-    let end = blanks_end(text, place);
-    let blanks = Part::new(whole, place, end)?;
-    tree.push(Kind::WhitespacePart(blanks))?;
-    Ok(end)
+    push_blanks(tree, whole, text, place, place + c.len_utf8())
 }
 
 // Adds the leaves of the gap at a place to the end of the container at hand, and answers where it ends.
@@ -202,7 +228,9 @@ pub(crate) fn fill_gap<A: Allocator>(
         let Some(c) = char_at(text, place) else {
             return Ok(place);
         };
-        if c.is_whitespace() {
+        if c == ' ' {
+            place = push_blanks(tree, whole, text, place, place + 1)?;
+        } else if c.is_whitespace() {
             place = push_blank(tree, whole, text, place, c)?;
         } else {
             if (c != '/') | !options.allow_comments {

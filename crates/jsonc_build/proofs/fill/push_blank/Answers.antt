@@ -1,9 +1,10 @@
-use Rattle.std.proofs.Common.{sym, ap}
+use Rattle.std.proofs.Common.{◌+◌, sym, subst, ap, arith}
+use Rattle.std.proofs.lemmas.Str.{len_utf8_bounds}
 use Rattle.std.specs.Char.{len_utf8}
+use Rattle.jsonc_text.specs.Chars.{Steps}
 use Rattle.jsonc_tree.specs.Content.{newline}
-use Rattle.jsonc_build.proofs.GapLeaves.{feed_at, return_at, blanks_at}
-use Rattle.jsonc_build.proofs.Parts.{part_of_same}
-use Rattle.jsonc_build.proofs.Stretches.{after_return, inner_many, inner_of, newline_step, return_many}
+use Rattle.jsonc_build.proofs.GapLeaves.{feed_at, return_at}
+use Rattle.jsonc_build.proofs.Stretches.{after_return, inner_of, newline_step, return_many}
 use Rattle.jsonc_build.proofs.fill.push_blank.Goals as goal
 
 pub returns-then-c-eq10-clause-added : goal.returns-then-c-eq10-clause-added
@@ -31,14 +32,12 @@ returns-then-c-eq13-clause-added g c =
 pub returns-then-c-eq13-clause-blanks : goal.returns-then-c-eq13-clause-blanks
 returns-then-c-eq13-clause-blanks g c = return_many c.args.text.now c.args.place c.args.c c.requires.stands c.carriage_return-newline.result.1 c.if-c-eq13.true c.carriage_return-newline.ensures.leaf
 
-pub returns-clause-added : goal.returns-clause-added
-returns-clause-added g c =
-    let ends = c.blanks_end-end.ensures in record {
-      content = _;
-      leaf = blanks_at c.args.text.now c.args.place c.args.c _ c.blanks_end-end.result _ c.utf8.text c.requires.place c.requires.stands (inner_of c.args.c c.requires.blank c.if-c-eq10.false c.if-c-eq13.false)
-          ends.order ends.place ends.blanks ends.all (part_of_same _ _ _ c.in_ok-blanks.ensures c.requires.whole);
-      pushes = c.in_ok-push-3.ensures.pushes;
-    }
+pub push_blanks-requires-clause-order : goal.push_blanks-requires-clause-order
+push_blanks-requires-clause-order g c = omega (arith, len_utf8_bounds c.args.c)
 
-pub returns-clause-blanks : goal.returns-clause-blanks
-returns-clause-blanks g c = inner_many c.blanks_end-end.ensures.blanks
+pub push_blanks-requires-clause-first : goal.push_blanks-requires-clause-first
+push_blanks-requires-clause-first g c = (
+  c.args.c,
+  inner_of c.args.c c.requires.blank c.if-c-eq10.false c.if-c-eq13.false,
+  subst (λ n. Steps c.args.text.now c.args.place c.args.c (c.args.place + n)) (sym c.len_utf8.ensures.value) c.requires.stands,
+)
